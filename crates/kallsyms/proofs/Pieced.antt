@@ -1,0 +1,118 @@
+-- The pieces of a text, and what a scan of it finds. Assumes nothing.
+use mathlib.Core.Path.{_≡_, refl, sym, ap, _∙_}
+use mathlib.Core.Bool.{Bool, true, false, cond, _&&_}
+use mathlib.Core.Logic.{⊎-elim}
+use mathlib.Core.List.{List, [], _∷_, _++_}
+use Prim.Native.Nat.{ℕ, zero, suc, _+_, _-_, _≤_, _<_}
+use native.Mathlib.Omega.{arith}
+use native.Mathlib.Numerals.{add-one}
+use native.Mathlib.Nat.{sub-zero}
+use lib.Dec.{eqb, ltb}
+use lib.ListN.{length, getD, take, drop, replicate}
+use Rattle.std.proofs.shelf.Tests.{eq-eqb, ne-eqb, eqb-true, lt-ltb, and-left, and-right, and-from, cases-bool, cond-true, cond-false, cond-both}
+use Rattle.std.proofs.shelf.Lists.{drop-replicate, drop-all, take-all, take-more, take-rest}
+use Rattle.kallsyms.specs.Cut.{plain, feeds, onto, pieces, lines-from, end-from}
+use Rattle.kallsyms.specs.Pieces.{bare}
+use Rattle.kallsyms.specs.Steps.{Steps, padded}
+use Rattle.kallsyms.specs.declared.ends.End.the-variants.{Clean}
+use Rattle.kallsyms.specs.declared.ends.Next as nexts
+
+and-true : (t : Bool) → t && true ≡ t
+and-true true = refl
+and-true false = refl
+
+and-assoc : (s t u : Bool) → (s && t) && u ≡ s && (t && u)
+and-assoc true t u = refl
+and-assoc false t u = refl
+
+pub fill-padded : (p q : List ℕ) → q ≡ p → q ++ drop (length p - 0) (replicate 1024 0) ≡ padded p
+fill-padded p q e =
+    let z : length p - 0 ≡ length p = omega arith in
+    ap (λ x. x ++ drop (length p - 0) (replicate 1024 0)) e ∙ ap (λ n. p ++ drop n (replicate 1024 0)) z ∙ ap (λ x. p ++ x) (drop-replicate (length p) 1024 0)
+
+pub plain-push : (p : List ℕ) (b : ℕ) → plain (p ++ b ∷ []) ≡ plain p && ltb b 128
+plain-push [] b = and-true (ltb b 128)
+plain-push (x ∷ p) b = ap (λ t. ltb x 128 && t) (plain-push p b) ∙ sym (and-assoc (ltb x 128) (plain p) (ltb b 128))
+
+-- one byte more that is seen
+pub plain-more : (bs : List ℕ) (i : ℕ) (t : Bool) → i < length bs → t ≡ plain (take i bs) → t && ltb (getD bs i 0) 128 ≡ plain (take (i + 1) bs)
+plain-more bs i t h e =
+    ap (λ u. u && ltb (getD bs i 0) 128) e ∙ sym (ap plain (take-more bs i 0 h) ∙ plain-push (take i bs) (getD bs i 0))
+
+-- a byte 13 is below 128
+pub plain-bare : (p : List ℕ) → plain p ≡ plain (bare p)
+plain-bare [] = refl
+plain-bare (b ∷ []) =
+    cond-both (eqb b 13) [] (b ∷ []) (λ q. plain (b ∷ []) ≡ plain q)
+    (λ e. and-from (ltb b 128) true (lt-ltb b 128 (let f = eqb-true b 13 e in omega arith)) refl)
+    (λ _. refl)
+plain-bare (b ∷ c ∷ p) = ap (λ t. ltb b 128 && t) (plain-bare (c ∷ p))
+
+pub bare-13 : (p : List ℕ) → 0 < length p → getD p (length p - 1) 0 ≡ 13 → take (length p - 1) p ≡ bare p
+bare-13 [] h e = absurd (omega arith)
+bare-13 (b ∷ []) h e = sym (cond-true _ [] (b ∷ []) (eq-eqb b 13 e))
+bare-13 (b ∷ c ∷ p) h e =
+    let z : suc (suc (length p)) - 1 ≡ suc (suc (length p) - 1) = omega arith in
+    ap (λ n. take n (b ∷ c ∷ p)) z ∙ ap (λ l. b ∷ l) (bare-13 (c ∷ p) (omega arith) (ap (λ n. getD (b ∷ c ∷ p) n 0) (sym z) ∙ e))
+
+pub bare-else : (p : List ℕ) → (0 < length p → getD p (length p - 1) 0 ≡ 13 → ⊥) → p ≡ bare p
+bare-else [] e = refl
+bare-else (b ∷ []) e = sym (cond-false _ [] (b ∷ []) (ne-eqb b 13 (e (omega arith))))
+bare-else (b ∷ c ∷ p) e =
+    let z : suc (suc (length p)) - 1 ≡ suc (suc (length p) - 1) = omega arith in
+    ap (λ l. b ∷ l) (bare-else (c ∷ p) (λ h f. e (omega arith) (ap (λ n. getD (b ∷ c ∷ p) n 0) z ∙ f)))
+
+-- one byte that is not 10, before a text whose first piece is known
+step : (b : ℕ) (bs : List ℕ) → (b ≡ 10 → ⊥) → pieces (b ∷ bs) ≡ cond (eqb b 13 && feeds bs) (pieces bs) (onto b (pieces bs))
+step b bs h = cond-false _ _ _ (ne-eqb b 10 h)
+
+-- a text without a byte 10 is one piece
+pub last-piece : (bs : List ℕ) → 0 < length bs → ((k : ℕ) → k < length bs → getD bs k 0 ≡ 10 → ⊥) → pieces bs ≡ bs ∷ []
+last-piece [] h f = absurd (omega arith)
+last-piece (b ∷ []) h f = step b [] (f 0 (omega arith)) ∙ cond-false _ _ _ (and-right (eqb b 13) false refl)
+last-piece (b ∷ c ∷ bs) h f =
+    step b (c ∷ bs) (f 0 (omega arith))
+    ∙ cond-false _ _ _ (and-right (eqb b 13) (eqb c 10) (ne-eqb c 10 (f 1 (omega arith))))
+    ∙ ap (onto b) (last-piece (c ∷ bs) (omega arith) (λ k l. f (suc k) (omega arith)))
+
+-- a text whose first byte 10 stands at i
+pub first-piece : (bs : List ℕ) (i : ℕ) → i < length bs → ((k : ℕ) → k < i → getD bs k 0 ≡ 10 → ⊥) → getD bs i 0 ≡ 10 → pieces bs ≡ bare (take i bs) ∷ pieces (drop (suc i) bs)
+first-piece [] i h f e = absurd (omega arith)
+first-piece (b ∷ bs) zero h f e = cond-true _ _ _ (eq-eqb b 10 e)
+first-piece (b ∷ []) (suc i) h f e = absurd (omega arith)
+first-piece (b ∷ c ∷ bs) (suc zero) h f e =
+    let feed : eqb c 10 ≡ true = eq-eqb c 10 e in
+    let tail : pieces (c ∷ bs) ≡ [] ∷ pieces bs = cond-true _ _ _ feed in
+    step b (c ∷ bs) (f 0 (omega arith))
+    ∙ ⊎-elim
+    (λ t. cond-true _ _ _ (and-from (eqb b 13) (eqb c 10) t feed) ∙ tail ∙ ap (λ l. l ∷ pieces bs) (sym (cond-true _ [] (b ∷ []) t)))
+    (λ t. cond-false _ _ _ (and-left (eqb b 13) (eqb c 10) t) ∙ ap (onto b) tail ∙ ap (λ l. l ∷ pieces bs) (sym (cond-false _ [] (b ∷ []) t)))
+    (cases-bool (eqb b 13))
+first-piece (b ∷ c ∷ bs) (suc (suc i)) h f e =
+    step b (c ∷ bs) (f 0 (omega arith))
+    ∙ cond-false _ _ _ (and-right (eqb b 13) (eqb c 10) (ne-eqb c 10 (f 1 (omega arith))))
+    ∙ ap (onto b) (first-piece (c ∷ bs) (suc i) (omega arith) (λ k l. f (suc k) (omega arith)) e)
+
+-- the two ways of `first_piece`
+pub piece-found : (bs s : List ℕ) (i : ℕ) → i < length bs → ((k : ℕ) → k < i → getD bs k 0 ≡ 10 → ⊥) → getD bs i 0 ≡ 10 → s ≡ bare (take (i - 0) bs) → pieces bs ≡ s ∷ pieces (take (length bs - (i + 1)) (drop (i + 1) bs))
+piece-found bs s i h f e g =
+    let first = first-piece bs i h f e in
+    let z = sub-zero i in
+    let rest = take-rest bs (i + 1) in
+    let one = add-one i in
+    cc
+
+pub plain-found : (bs s : List ℕ) (i : ℕ) (t : Bool) → t ≡ plain (take i bs) → s ≡ bare (take (i - 0) bs) → t ≡ plain s
+plain-found bs s i t e g = e ∙ plain-bare (take i bs) ∙ ap (λ n. plain (bare (take n bs))) (sym (sub-zero i)) ∙ sym (ap plain g)
+
+pub piece-last : (bs : List ℕ) (i : ℕ) → 0 < length bs → length bs ≤ i → ((k : ℕ) → k < i → getD bs k 0 ≡ 10 → ⊥) → pieces bs ≡ bs ∷ pieces (take (length bs - i) (drop i bs))
+piece-last bs i h g f =
+    last-piece bs h (λ k l. f k (omega arith)) ∙ ap (λ l. bs ∷ pieces l) (sym (take-rest bs i ∙ drop-all i bs g))
+
+pub plain-last : (bs : List ℕ) (i : ℕ) (t : Bool) → length bs ≤ i → t ≡ plain (take i bs) → t ≡ plain bs
+plain-last bs i t g e = e ∙ ap plain (take-all i bs g)
+
+-- nothing is left
+pub empty-ends : (bs : List ℕ) (n : ℕ) (b : List ℕ) → length bs ≡ 0 → Steps (lines-from n bs) (end-from n bs) b (nexts.the-variants.End Clean) (lines-from n bs) (end-from n bs) b
+empty-ends [] n b h = (refl, refl, refl, refl)
+empty-ends (x ∷ bs) n b h = absurd (omega arith)
