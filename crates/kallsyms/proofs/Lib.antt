@@ -1,1 +1,2 @@
 pub mod Pieced
+pub mod Fielded

@@ -5,3 +5,5 @@ pub mod Pieces
 pub mod Joins
 pub mod Choices
 pub mod Goodness
+pub mod Fields
+pub mod Shown
