@@ -1,2 +1,3 @@
 pub mod Pieced
 pub mod Fielded
+pub mod Addressed

@@ -7,3 +7,6 @@ pub mod Choices
 pub mod Goodness
 pub mod Fields
 pub mod Shown
+pub mod Address
+pub mod Means
+pub mod Laws

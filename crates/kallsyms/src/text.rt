@@ -15,7 +15,9 @@ use crate::source::LINE_LEN;
 use crate::source::LineSource;
 
 const LINE_FEED: u8 = 10;
+
 const CARRIAGE_RETURN: u8 = 13;
+
 const FIRST_TOO_LARGE: u8 = 128;
 
 /// A text, from the line that is next.
