@@ -27,7 +27,7 @@ skip-front (b ∷ l) n (suc k) h f =
     cond-true _ _ _ (f 0 (omega arith)) ∙ skip-front l (suc n) k (omega arith) (λ j lt. f (suc j) (omega arith)) ∙ ap (λ m. fields m (drop k l)) z
 
 -- bytes at the front that are no separators, up to a separator or the end, are the first field
-take-front : (l : List ℕ) (n k : ℕ) → 0 < k → k ≤ length l → ((j : ℕ) → j < k → separates (getD l j 0) ≡ false) → (k < length l → separates (getD l k 0) ≡ true) → fields n l ≡ record { start = n; bytes = take k l } ∷ fields (n + k) (drop k l)
+pub take-front : (l : List ℕ) (n k : ℕ) → 0 < k → k ≤ length l → ((j : ℕ) → j < k → separates (getD l j 0) ≡ false) → (k < length l → separates (getD l k 0) ≡ true) → fields n l ≡ record { start = n; bytes = take k l } ∷ fields (n + k) (drop k l)
 take-front l n zero z h f g = absurd (omega arith)
 take-front [] n (suc k) z h f g = absurd (omega arith)
 take-front (b ∷ []) n (suc zero) z h f g = cond-false _ _ _ (f 0 (omega arith))

@@ -1,3 +1,6 @@
-pub mod Pieced
-pub mod Fielded
 pub mod Addressed
+pub mod FieldLaws
+pub mod Fielded
+pub mod Meant
+pub mod Pieced
+pub mod Stepped

@@ -265,7 +265,6 @@ const DIGITS: [u8; 256] = [
     255,
 ];
 
-
 /// The value of a byte as a hexadecimal digit, or NO_DIGIT.
 pub fn digit(b: u8) -> u8
     ensures { λ r. ⌜ r ≡ entry (digit-of b) ⌝ }

@@ -5,5 +5,6 @@ pub mod either;
 pub mod ends;
 pub mod fields;
 pub mod joined;
+pub mod laws;
 pub mod source;
 pub mod text;

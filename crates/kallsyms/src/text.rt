@@ -5,6 +5,7 @@ ghost use Prim.Native.Nat.{ℕ, _≤_, _<_};
 ghost use lib.ListN.{length, getD, take};
 ghost use denote.Ref.{now as behind};
 ghost use Rattle.kallsyms.specs.Cut.{lines-from, end-from, pieces, plain, verdict};
+ghost use Rattle.kallsyms.specs.Means.{OneMeaning};
 ghost use Rattle.kallsyms.specs.Pieces.{bare};
 ghost use Rattle.kallsyms.specs.Steps.{padded};
 ghost use Rattle.kallsyms.specs.Goodness.{good-kept};
@@ -33,6 +34,7 @@ impl<'a> Text<'a> {
     pub fn new(bytes: &'a [u8]) -> Text<'a>
         ensures rest { λ r. ⌜ now (r .rest) ≡ now (bytes .entry) ⌝ }
         ensures line { λ r. ⌜ r .line ≡ 1 ⌝ }
+        ensures meaning { λ r. ⌜ OneMeaning (now (bytes .entry)) (lines-from (r .line) (now (r .rest))) (end-from (r .line) (now (r .rest))) ⌝ }
     {
         Text {
             rest: bytes,

@@ -1,0 +1,3 @@
+pub mod After
+pub mod Noted
+pub mod Says

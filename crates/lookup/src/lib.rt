@@ -1,0 +1,3 @@
+// What a kernel symbol list says of names.
+pub mod scan;
+pub mod sighting;
