@@ -42,6 +42,10 @@ pub name-read : (names : List (String Global)) (i : ℕ) (x : String Global) →
 name-read names i x lt e = getD-map string-bytes names i x [] lt ∙ ap string-bytes (sym e)
 
 module _ (len i : ℕ) (old rows : List Sighting) (new : ℕ → Sighting) (before : (k : ℕ) → k < len → getD rows k Unlisted ≡ cond (ltb k i) (new k) (getD old k Unlisted)) where
+  -- the row that is next is as it was
+  pub row-same : i < len → getD rows i Unlisted ≡ getD old i Unlisted
+  row-same lt = before i lt ∙ cond-false _ _ _ (le-ltb i i (omega arith))
+
   -- one row more is set
   pub row-more : (s : Sighting) → length rows ≡ len → i < len → s ≡ new i → (k : ℕ) → k < len → getD (set rows i s) k Unlisted ≡ cond (ltb k (i + 1)) (new k) (getD old k Unlisted)
   row-more s whole lt e k h =
