@@ -1,5 +1,5 @@
 -- One line more that lists a name. Assumes nothing.
-use mathlib.Core.Bool.{cond}
+use mathlib.Core.Bool.{Bool, true, false, cond}
 use Prim.Native.Nat.{ℕ}
 use lib.Dec.{eqb}
 use Rattle.std.specs.declared.option.Option.{Option}
@@ -19,3 +19,11 @@ after n (Some a) (OnlyZero m) = cond (eqb a 0) (OnlyZero m) (At n a)
 after n (Some a) (At m x) = cond (eqb a 0) (At m x) (cond (eqb x a) (At m x) (TwoAddresses m x n a))
 after n (Some a) (TwoAddresses m x k y) = TwoAddresses m x k y
 after n (Some a) (Unreadable m) = Unreadable m
+
+-- whether the name has one nonzero address
+abbrev pub is-found : Sighting → Bool
+is-found Unlisted = false
+is-found (OnlyZero n) = false
+is-found (At n x) = true
+is-found (TwoAddresses n x m y) = false
+is-found (Unreadable n) = false

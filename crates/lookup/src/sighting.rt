@@ -1,6 +1,6 @@
 // What the lines read so far say of one name.
 ghost use mathlib.Core.Path.{_≡_};
-ghost use Rattle.lookup.specs.After.{after as after-of};
+ghost use Rattle.lookup.specs.After.{after as after-of, is-found};
 
 /// What the lines of a list say of one name; lines are counted from 1.
 #[derive(Clone, Copy, Debug, PartialEq)]
@@ -59,5 +59,12 @@ impl Sighting {
             }
             (_, Some(address)) => Sighting::At { line, address },
         }
+    }
+
+    /// Whether the name has one nonzero address.
+    pub fn is_found(self) -> bool
+        ensures { λ r. ⌜ r ≡ is-found self ⌝ }
+    {
+        matches!(self, Sighting::At { .. })
     }
 }
