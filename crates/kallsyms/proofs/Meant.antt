@@ -11,7 +11,6 @@ use Rattle.std.proofs.shelf.Tests.{eq-eqb, ne-eqb, eqb-true, eqb-false, ltb-tru
 use Rattle.std.proofs.shelf.Lists.{append-nil, append-assoc, getD-append-left, getD-at, take-at}
 use Rattle.kallsyms.specs.Line.{Plain, GoodLine, GoodLines}
 use Rattle.kallsyms.specs.Cut.{feeds, onto, pieces, plain, verdict, after, keep, first-end, kept, ended, lines-from, end-from}
-use Rattle.kallsyms.specs.Pieces.{bare}
 use Rattle.kallsyms.specs.Goodness.{plain-Plain}
 use Rattle.kallsyms.specs.Means.{NoFeed, NoReturn, Ends, Consists, Has, Means, OneMeaning}
 use Rattle.kallsyms.specs.Laws.{Each, written, WrittenLinesAreRead, ReturnedLinesAreRead}
@@ -19,18 +18,18 @@ use Rattle.kallsyms.specs.declared.ends.Fault.{Fault}
 use Rattle.kallsyms.specs.declared.ends.Fault.the-variants.{LineTooLong, ByteTooLarge}
 use Rattle.kallsyms.specs.declared.ends.End.{End}
 use Rattle.kallsyms.specs.declared.ends.End.the-variants.{Clean, Broken}
-use Rattle.kallsyms.proofs.Pieced.{first-piece, last-piece}
+use Rattle.kallsyms.proofs.Pieced.{trim, first-piece, last-piece}
 
--- a byte 13 at the end is what `bare` takes away
-bare-kept : (p : List ℕ) → NoReturn p → bare p ≡ p
-bare-kept [] h = refl
-bare-kept (b ∷ []) h = cond-false _ _ _ (ne-eqb b 13 (λ e. h [] (ap (λ x. x ∷ []) e)))
-bare-kept (b ∷ c ∷ p) h = ap (λ l. b ∷ l) (bare-kept (c ∷ p) (λ q e. h (b ∷ q) (ap (λ l. b ∷ l) e)))
+-- a byte 13 at the end is what `trim` takes away
+trim-kept : (p : List ℕ) → NoReturn p → trim p ≡ p
+trim-kept [] h = refl
+trim-kept (b ∷ []) h = cond-false _ _ _ (ne-eqb b 13 (λ e. h [] (ap (λ x. x ∷ []) e)))
+trim-kept (b ∷ c ∷ p) h = ap (λ l. b ∷ l) (trim-kept (c ∷ p) (λ q e. h (b ∷ q) (ap (λ l. b ∷ l) e)))
 
-bare-taken : (p : List ℕ) → bare (p ++ 13 ∷ []) ≡ p
-bare-taken [] = refl
-bare-taken (b ∷ []) = refl
-bare-taken (b ∷ c ∷ p) = ap (λ l. b ∷ l) (bare-taken (c ∷ p))
+trim-taken : (p : List ℕ) → trim (p ++ 13 ∷ []) ≡ p
+trim-taken [] = refl
+trim-taken (b ∷ []) = refl
+trim-taken (b ∷ c ∷ p) = ap (λ l. b ∷ l) (trim-taken (c ∷ p))
 
 -- no byte of a piece is 10
 no-feed-at : (p : List ℕ) → NoFeed p → (k : ℕ) → k < length p → getD p k 0 ≡ 10 → ⊥
@@ -47,22 +46,22 @@ drop-past : (p : List ℕ) (b : ℕ) (bs : List ℕ) → drop (suc (length p)) (
 drop-past [] b bs = refl
 drop-past (x ∷ p) b bs = drop-past p b bs
 
-pieces-fed : (p bs : List ℕ) → NoFeed p → pieces (p ++ 10 ∷ bs) ≡ bare p ∷ pieces bs
+pieces-fed : (p bs : List ℕ) → NoFeed p → pieces (p ++ 10 ∷ bs) ≡ trim p ∷ pieces bs
 pieces-fed p bs f =
     let len = length-append p (10 ∷ bs) in
     first-piece (p ++ 10 ∷ bs) (length p) (omega arith)
     (λ k lt e. no-feed-at p f k lt (sym (getD-append-left p (10 ∷ bs) 0 k lt) ∙ e))
     (getD-at p 10 bs 0 (length p) refl)
-    ∙ ap (λ l. bare l ∷ pieces (drop (suc (length p)) (p ++ 10 ∷ bs))) (take-at p (10 ∷ bs) (length p) refl)
-    ∙ ap (λ l. bare p ∷ pieces l) (drop-past p 10 bs)
+    ∙ ap (λ l. trim l ∷ pieces (drop (suc (length p)) (p ++ 10 ∷ bs))) (take-at p (10 ∷ bs) (length p) refl)
+    ∙ ap (λ l. trim p ∷ pieces l) (drop-past p 10 bs)
 
 pieces-ended : (p bs rest : List ℕ) → NoFeed p → Ends p bs rest → pieces bs ≡ p ∷ pieces rest
 pieces-ended p bs rest f =
     ⊎-elim
-    (λ x. ap pieces (x .0) ∙ pieces-fed p rest f ∙ ap (λ l. l ∷ pieces rest) (bare-kept p (x .1)))
+    (λ x. ap pieces (x .0) ∙ pieces-fed p rest f ∙ ap (λ l. l ∷ pieces rest) (trim-kept p (x .1)))
     (λ e. ap pieces (e ∙ sym (append-assoc p (13 ∷ []) (10 ∷ rest)))
     ∙ pieces-fed (p ++ 13 ∷ []) rest (no-feed-return p f)
-    ∙ ap (λ l. l ∷ pieces rest) (bare-taken p))
+    ∙ ap (λ l. l ∷ pieces rest) (trim-taken p))
 
 -- so a text consists of its pieces at most
 consists-pieces : (ps : List (List ℕ)) (bs : List ℕ) → Consists ps bs → pieces bs ≡ ps

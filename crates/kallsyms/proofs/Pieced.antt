@@ -8,12 +8,12 @@ use native.Mathlib.Omega.{arith}
 use native.Mathlib.Numerals.{add-one}
 use native.Mathlib.Nat.{sub-zero}
 use lib.Dec.{eqb, ltb}
-use lib.ListN.{length, getD, take, drop, replicate}
-use Rattle.std.proofs.shelf.Tests.{eq-eqb, ne-eqb, eqb-true, lt-ltb, and-left, and-right, and-from, cases-bool, cond-true, cond-false, cond-both}
-use Rattle.std.proofs.shelf.Lists.{drop-replicate, drop-all, take-all, take-more, take-rest}
+use lib.ListN.{length, getD, take, drop}
+use Rattle.std.proofs.shelf.Tests.{eq-eqb, ne-eqb, eqb-true, lt-ltb, ltb-true, and-left, and-right, and-from, and-parts, both-ways, cases-bool, cond-true, cond-false, cond-both}
+use Rattle.std.proofs.shelf.Lists.{drop-all, take-all, take-more, take-rest}
 use Rattle.kallsyms.specs.Cut.{plain, feeds, onto, pieces, lines-from, end-from}
-use Rattle.kallsyms.specs.Pieces.{bare}
-use Rattle.kallsyms.specs.Steps.{Steps, padded}
+use Rattle.kallsyms.specs.Pieces.{returns, bare}
+use Rattle.kallsyms.specs.Steps.{Steps}
 use Rattle.kallsyms.specs.declared.ends.End.the-variants.{Clean}
 use Rattle.kallsyms.specs.declared.ends.Next as nexts
 
@@ -25,10 +25,11 @@ and-assoc : (s t u : Bool) → (s && t) && u ≡ s && (t && u)
 and-assoc true t u = refl
 and-assoc false t u = refl
 
-pub fill-padded : (p q : List ℕ) → q ≡ p → q ++ drop (length p - 0) (replicate 1024 0) ≡ padded p
-fill-padded p q e =
-    let z : length p - 0 ≡ length p = omega arith in
-    ap (λ x. x ++ drop (length p - 0) (replicate 1024 0)) e ∙ ap (λ n. p ++ drop n (replicate 1024 0)) z ∙ ap (λ x. p ++ x) (drop-replicate (length p) 1024 0)
+-- without a byte 13 at the end, byte by byte
+abbrev pub trim : List ℕ → List ℕ
+trim [] = []
+trim (b ∷ []) = cond (eqb b 13) [] (b ∷ [])
+trim (b ∷ c ∷ bs) = b ∷ trim (c ∷ bs)
 
 pub plain-push : (p : List ℕ) (b : ℕ) → plain (p ++ b ∷ []) ≡ plain p && ltb b 128
 plain-push [] b = and-true (ltb b 128)
@@ -40,27 +41,35 @@ plain-more bs i t h e =
     ap (λ u. u && ltb (getD bs i 0) 128) e ∙ sym (ap plain (take-more bs i 0 h) ∙ plain-push (take i bs) (getD bs i 0))
 
 -- a byte 13 is below 128
-pub plain-bare : (p : List ℕ) → plain p ≡ plain (bare p)
-plain-bare [] = refl
-plain-bare (b ∷ []) =
+plain-trim : (p : List ℕ) → plain p ≡ plain (trim p)
+plain-trim [] = refl
+plain-trim (b ∷ []) =
     cond-both (eqb b 13) [] (b ∷ []) (λ q. plain (b ∷ []) ≡ plain q)
     (λ e. and-from (ltb b 128) true (lt-ltb b 128 (let f = eqb-true b 13 e in omega arith)) refl)
     (λ _. refl)
-plain-bare (b ∷ c ∷ p) = ap (λ t. ltb b 128 && t) (plain-bare (c ∷ p))
+plain-trim (b ∷ c ∷ p) = ap (λ t. ltb b 128 && t) (plain-trim (c ∷ p))
 
-pub bare-13 : (p : List ℕ) → 0 < length p → getD p (length p - 1) 0 ≡ 13 → take (length p - 1) p ≡ bare p
-bare-13 [] h e = absurd (omega arith)
-bare-13 (b ∷ []) h e = sym (cond-true _ [] (b ∷ []) (eq-eqb b 13 e))
-bare-13 (b ∷ c ∷ p) h e =
+trim-13 : (p : List ℕ) → 0 < length p → getD p (length p - 1) 0 ≡ 13 → take (length p - 1) p ≡ trim p
+trim-13 [] h e = absurd (omega arith)
+trim-13 (b ∷ []) h e = sym (cond-true _ [] (b ∷ []) (eq-eqb b 13 e))
+trim-13 (b ∷ c ∷ p) h e =
     let z : suc (suc (length p)) - 1 ≡ suc (suc (length p) - 1) = omega arith in
-    ap (λ n. take n (b ∷ c ∷ p)) z ∙ ap (λ l. b ∷ l) (bare-13 (c ∷ p) (omega arith) (ap (λ n. getD (b ∷ c ∷ p) n 0) (sym z) ∙ e))
+    ap (λ n. take n (b ∷ c ∷ p)) z ∙ ap (λ l. b ∷ l) (trim-13 (c ∷ p) (omega arith) (ap (λ n. getD (b ∷ c ∷ p) n 0) (sym z) ∙ e))
 
-pub bare-else : (p : List ℕ) → (0 < length p → getD p (length p - 1) 0 ≡ 13 → ⊥) → p ≡ bare p
-bare-else [] e = refl
-bare-else (b ∷ []) e = sym (cond-false _ [] (b ∷ []) (ne-eqb b 13 (e (omega arith))))
-bare-else (b ∷ c ∷ p) e =
+trim-else : (p : List ℕ) → (0 < length p → getD p (length p - 1) 0 ≡ 13 → ⊥) → p ≡ trim p
+trim-else [] e = refl
+trim-else (b ∷ []) e = sym (cond-false _ [] (b ∷ []) (ne-eqb b 13 (e (omega arith))))
+trim-else (b ∷ c ∷ p) e =
     let z : suc (suc (length p)) - 1 ≡ suc (suc (length p) - 1) = omega arith in
-    ap (λ l. b ∷ l) (bare-else (c ∷ p) (λ h f. e (omega arith) (ap (λ n. getD (b ∷ c ∷ p) n 0) z ∙ f)))
+    ap (λ l. b ∷ l) (trim-else (c ∷ p) (λ h f. e (omega arith) (ap (λ n. getD (b ∷ c ∷ p) n 0) z ∙ f)))
+
+-- both are the same
+pub bare-trim : (p : List ℕ) → bare p ≡ trim p
+bare-trim p =
+    let last = getD p (length p - 1) 0 in
+    cond-both (returns p) (take (length p - 1) p) p (λ q. q ≡ trim p)
+    (λ t. let parts = and-parts (ltb 0 (length p)) (eqb last 13) t in trim-13 p (ltb-true 0 (length p) (parts .0)) (eqb-true last 13 (parts .1)))
+    (λ f. trim-else p (λ h e. both-ways _ f (and-from (ltb 0 (length p)) (eqb last 13) (lt-ltb 0 (length p) h) (eq-eqb last 13 e))))
 
 -- one byte that is not 10, before a text whose first piece is known
 step : (b : ℕ) (bs : List ℕ) → (b ≡ 10 → ⊥) → pieces (b ∷ bs) ≡ cond (eqb b 13 && feeds bs) (pieces bs) (onto b (pieces bs))
@@ -76,7 +85,7 @@ last-piece (b ∷ c ∷ bs) h f =
     ∙ ap (onto b) (last-piece (c ∷ bs) (omega arith) (λ k l. f (suc k) (omega arith)))
 
 -- a text whose first byte 10 stands at i
-pub first-piece : (bs : List ℕ) (i : ℕ) → i < length bs → ((k : ℕ) → k < i → getD bs k 0 ≡ 10 → ⊥) → getD bs i 0 ≡ 10 → pieces bs ≡ bare (take i bs) ∷ pieces (drop (suc i) bs)
+pub first-piece : (bs : List ℕ) (i : ℕ) → i < length bs → ((k : ℕ) → k < i → getD bs k 0 ≡ 10 → ⊥) → getD bs i 0 ≡ 10 → pieces bs ≡ trim (take i bs) ∷ pieces (drop (suc i) bs)
 first-piece [] i h f e = absurd (omega arith)
 first-piece (b ∷ bs) zero h f e = cond-true _ _ _ (eq-eqb b 10 e)
 first-piece (b ∷ []) (suc i) h f e = absurd (omega arith)
@@ -97,13 +106,15 @@ first-piece (b ∷ c ∷ bs) (suc (suc i)) h f e =
 pub piece-found : (bs s : List ℕ) (i : ℕ) → i < length bs → ((k : ℕ) → k < i → getD bs k 0 ≡ 10 → ⊥) → getD bs i 0 ≡ 10 → s ≡ bare (take (i - 0) bs) → pieces bs ≡ s ∷ pieces (take (length bs - (i + 1)) (drop (i + 1) bs))
 piece-found bs s i h f e g =
     let first = first-piece bs i h f e in
+    let same = bare-trim (take i bs) in
     let z = sub-zero i in
     let rest = take-rest bs (i + 1) in
     let one = add-one i in
     cc
 
 pub plain-found : (bs s : List ℕ) (i : ℕ) (t : Bool) → t ≡ plain (take i bs) → s ≡ bare (take (i - 0) bs) → t ≡ plain s
-plain-found bs s i t e g = e ∙ plain-bare (take i bs) ∙ ap (λ n. plain (bare (take n bs))) (sym (sub-zero i)) ∙ sym (ap plain g)
+plain-found bs s i t e g =
+    e ∙ plain-trim (take i bs) ∙ ap plain (sym (bare-trim (take i bs))) ∙ ap (λ n. plain (bare (take n bs))) (sym (sub-zero i)) ∙ sym (ap plain g)
 
 pub piece-last : (bs : List ℕ) (i : ℕ) → 0 < length bs → length bs ≤ i → ((k : ℕ) → k < i → getD bs k 0 ≡ 10 → ⊥) → pieces bs ≡ bs ∷ pieces (take (length bs - i) (drop i bs))
 piece-last bs i h g f =

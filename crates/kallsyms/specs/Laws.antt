@@ -7,11 +7,15 @@ use lib.Chars.{codes}
 use lib.ListN.{length, getD, take, drop}
 use Rattle.std.specs.declared.option.Option.the-variants.{Some, None}
 use Rattle.kallsyms.specs.Line.{GoodLine}
-use Rattle.kallsyms.specs.Means.{NoFeed, NoReturn}
+use Rattle.kallsyms.specs.Means.{NoFeed, NoReturn, OneMeaning}
 use Rattle.kallsyms.specs.Cut.{lines-from, end-from}
 use Rattle.kallsyms.specs.Fields.{separates, fields, field}
 use Rattle.kallsyms.specs.Address.{address}
 use Rattle.kallsyms.specs.declared.ends.End.the-variants.{Clean}
+
+-- every text means the lines and the end that are cut from it, and no others
+abbrev pub TextsHaveOneMeaning : Type 0
+TextsHaveOneMeaning = (bs : List ℕ) → OneMeaning bs (lines-from 1 bs) (end-from 1 bs)
 
 -- what holds of each line
 abbrev pub Each : (List ℕ → Type 0) → List (List ℕ) → Type 0

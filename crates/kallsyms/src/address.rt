@@ -1,7 +1,8 @@
 // The address that a field holds, in hexadecimal.
 ghost use mathlib.Core.Path.{_≡_};
-ghost use Rattle.kallsyms.specs.Address.{unsigned as unsigned-of, address as address-of};
-use crate::digits::NO_DIGIT;
+ghost use Prim.Native.Nat.{_+_, _*_, _<_};
+ghost use Rattle.std.specs.declared.option.Option.the-variants.{Some};
+ghost use Rattle.kallsyms.specs.Address.{unsigned as unsigned-of, limited, address as address-of};
 use crate::digits::digit;
 
 const PLUS: u8 = 43;
@@ -19,6 +20,18 @@ fn unsigned(field: &[u8]) -> &[u8]
     }
 }
 
+// A number with one digit more, or none if that passes 64 bits.
+fn with_digit(value: u64, d: u8) -> Option<u64>
+    requires { ⌜ d < 16 ⌝ }
+    ensures { λ r. ⌜ r ≡ limited (Some (value * 16 + d)) ⌝ }
+{
+    if value > LAST_TO_SHIFT {
+        None
+    } else {
+        Some(value * 16 + d as u64)
+    }
+}
+
 /// The address that a field holds, or none if it does not read.
 pub fn read_address(field: &[u8]) -> Option<u64>
     ensures { λ r. ⌜ r ≡ address-of (now (field .entry)) ⌝ }
@@ -29,11 +42,7 @@ pub fn read_address(field: &[u8]) -> Option<u64>
     }
     let mut value: u64 = 0;
     for b in digits {
-        let d = digit(*b);
-        if d == NO_DIGIT || value > LAST_TO_SHIFT {
-            return None;
-        }
-        value = value * 16 + d as u64;
+        value = with_digit(value, digit(*b)?)?;
     }
     Some(value)
 }

@@ -1,9 +1,9 @@
 // The values of hexadecimal digits.
 ghost use mathlib.Core.Path.{_≡_};
-ghost use Rattle.kallsyms.specs.Address.{digit as digit-of, entry};
+ghost use Rattle.kallsyms.specs.Address.{digit as digit-of, entry as entry-of};
 
-/// What the table holds for a byte that is no digit.
-pub const NO_DIGIT: u8 = 255;
+// What the table holds for a byte that is no digit.
+const NO_DIGIT: u8 = 255;
 
 // The value of each byte, from 0 to 255, as a hexadecimal digit, or NO_DIGIT.
 const DIGITS: [u8; 256] = [
@@ -265,9 +265,17 @@ const DIGITS: [u8; 256] = [
     255,
 ];
 
-/// The value of a byte as a hexadecimal digit, or NO_DIGIT.
-pub fn digit(b: u8) -> u8
-    ensures { λ r. ⌜ r ≡ entry (digit-of b) ⌝ }
+// What the table holds for a byte.
+fn entry(b: u8) -> u8
+    ensures { λ r. ⌜ r ≡ entry-of (digit-of b) ⌝ }
 {
     DIGITS[b as usize]
+}
+
+/// The value of a byte as a hexadecimal digit, or none.
+pub fn digit(b: u8) -> Option<u8>
+    ensures { λ r. ⌜ r ≡ digit-of b ⌝ }
+{
+    let d = entry(b);
+    if d == NO_DIGIT { None } else { Some(d) }
 }

@@ -1,5 +1,10 @@
 // Theorems about the definitions that the contracts of this crate cite: each function's contract is one.
-ghost use Rattle.kallsyms.specs.Laws.{WrittenLinesAreRead, ReturnedLinesAreRead, FieldsAreParts, WordsAreFields, AddressCases};
+ghost use Rattle.kallsyms.specs.Laws.{TextsHaveOneMeaning, WrittenLinesAreRead, ReturnedLinesAreRead, FieldsAreParts, WordsAreFields, AddressCases};
+
+/// Every text has one meaning: the lines and the end that its source has.
+pub fn texts_have_one_meaning()
+    ensures { λ _. ⌜ TextsHaveOneMeaning ⌝ }
+{}
 
 /// A text of good lines, each with a line feed after it, means exactly those lines and ends clean.
 pub fn written_lines_are_read()

@@ -1,13 +1,11 @@
 // The lines of a text in memory.
 ghost use mathlib.Core.Path.{_≡_};
-ghost use mathlib.Core.List.{_∷_};
+ghost use mathlib.Core.List.{_∷_, _++_};
 ghost use Prim.Native.Nat.{ℕ, _≤_, _<_};
-ghost use lib.ListN.{length, getD, take};
+ghost use lib.ListN.{length, getD, take, drop};
 ghost use denote.Ref.{now as behind};
 ghost use Rattle.kallsyms.specs.Cut.{lines-from, end-from, pieces, plain, verdict};
-ghost use Rattle.kallsyms.specs.Means.{OneMeaning};
 ghost use Rattle.kallsyms.specs.Pieces.{bare};
-ghost use Rattle.kallsyms.specs.Steps.{padded};
 ghost use Rattle.kallsyms.specs.Goodness.{good-kept};
 use crate::ends::End;
 use crate::ends::Fault;
@@ -34,7 +32,6 @@ impl<'a> Text<'a> {
     pub fn new(bytes: &'a [u8]) -> Text<'a>
         ensures rest { λ r. ⌜ now (r .rest) ≡ now (bytes .entry) ⌝ }
         ensures line { λ r. ⌜ r .line ≡ 1 ⌝ }
-        ensures meaning { λ r. ⌜ OneMeaning (now (bytes .entry)) (lines-from (r .line) (now (r .rest))) (end-from (r .line) (now (r .rest))) ⌝ }
     {
         Text {
             rest: bytes,
@@ -116,12 +113,11 @@ fn judged(line: u64, piece: &Piece) -> End
     }
 }
 
-// Puts a line into the buffer, with zeros after it.
-fn fill(buffer: &mut [u8; LINE_LEN], line: &[u8])
+// Puts a line at the front of the buffer.
+fn put(buffer: &mut [u8; LINE_LEN], line: &[u8])
     requires { ⌜ length (now line) ≤ 1024 ⌝ }
-    ensures { λ _. ⌜ now (buffer .exit) ≡ padded (now (line .entry)) ⌝ }
+    ensures { λ _. ⌜ now (buffer .exit) ≡ now (line .entry) ++ drop (length (now (line .entry))) (now (buffer .entry)) ⌝ }
 {
-    *buffer = [0; LINE_LEN];
     buffer[0..line.len()].copy_from_slice(line);
 }
 
@@ -142,7 +138,8 @@ pub impl<'a> LineSource for Text<'a> as TextLineSource {
         if let End::Broken(_) = verdict {
             return Next::End(verdict);
         }
-        fill(buffer, piece.bytes);
+        *buffer = [0; LINE_LEN];
+        put(buffer, piece.bytes);
         self.rest = piece.rest;
         self.line = self.line.saturating_add(1);
         Next::Line(piece.bytes.len())

@@ -23,7 +23,14 @@ fn print(rt: &LibcRuntime, names: &[String], report: &Report) -> io::Result<()> 
         println!(rt, "{}", Broken { fault })?;
     }
     for (name, sighting) in names.iter().zip(report.sightings.iter()) {
-        println!(rt, "{}", Told { name: name.as_str(), sighting: *sighting })?;
+        println!(
+            rt,
+            "{}",
+            Told {
+                name: name.as_str(),
+                sighting: *sighting
+            }
+        )?;
     }
     let lines = report.lines;
     let found = found(&report.sightings);

@@ -17,7 +17,10 @@ pub impl fmt::Display for Told<'_> as ToldDisplay {
         let name = self.name;
         match self.sighting {
             Sighting::Unlisted => write!(f, "{name}: not listed"),
-            Sighting::OnlyZero { line } => write!(f, "{name}: only at address zero, first on line {line}"),
+            Sighting::OnlyZero { line } => write!(
+                f,
+                "{name}: only at address zero, first on line {line}"
+            ),
             Sighting::At { line, address } => write!(f, "{name}: {address:#018x}, line {line}"),
             Sighting::TwoAddresses {
                 line,
@@ -28,7 +31,10 @@ pub impl fmt::Display for Told<'_> as ToldDisplay {
                 f,
                 "{name}: two addresses, {address:#018x} on line {line} and {other_address:#018x} on line {other_line}"
             ),
-            Sighting::Unreadable { line } => write!(f, "{name}: the address on line {line} does not read"),
+            Sighting::Unreadable { line } => write!(
+                f,
+                "{name}: the address on line {line} does not read"
+            ),
         }
     }
 }
@@ -43,10 +49,16 @@ pub impl fmt::Display for Broken as BrokenDisplay {
     fn fmt<W: fmt::Write>(&self, f: &mut fmt::Formatter<W>) -> fmt::Result {
         match self.fault {
             Fault::LineTooLong { line } => {
-                write!(f, "the list is broken: line {line} has more than 1024 bytes; only the lines before it were read")
+                write!(
+                    f,
+                    "the list is broken: line {line} has more than 1024 bytes; only the lines before it were read"
+                )
             }
             Fault::ByteTooLarge { line } => {
-                write!(f, "the list is broken: line {line} has a byte of 128 or more; only the lines before it were read")
+                write!(
+                    f,
+                    "the list is broken: line {line} has a byte of 128 or more; only the lines before it were read"
+                )
             }
         }
     }

@@ -62,7 +62,7 @@ module _ (xs : List (List ℕ)) (l name : List ℕ) where
   before-more P h new j a lt g =
       let len = length-append xs (l ∷ []) in
       let last : length xs ≤ j → P a =
-            λ ge. let z : j ≡ length xs = omega arith in let lines = last-gives a (subst (λ i. Gives (xs ++ l ∷ []) name i a) z g) in subst P (lines .1) (new (lines .0)) in
+      λ ge. let z : j ≡ length xs = omega arith in let lines = last-gives a (subst (λ i. Gives (xs ++ l ∷ []) name i a) z g) in subst P (lines .1) (new (lines .0)) in
       ⊎-elim (λ less. h j a less (gives-back j a less g)) last (cases-lt j (length xs))
 
   -- the same is said
@@ -120,14 +120,14 @@ module _ (xs : List (List ℕ)) (l name : List ℕ) where
     more (Some a) e Unlisted y =
         cond-both (eqb a 0) _ _ (Says (xs ++ l ∷ []) name)
         (λ t.
-          let zero = e ∙ ap Some (eqb-true a 0 t) in
-          record {
-            at = length xs;
-            numbered = refl;
-            gives = gives-last (Some 0) h zero;
-            first = before-on (length xs) (λ _. ⊥) (omega arith) y;
-            all = before-more (λ o. o ≡ Some 0) (λ j o lt g. absurd (y j o lt g)) (λ _. zero);
-          })
+        let zero = e ∙ ap Some (eqb-true a 0 t) in
+        record {
+          at = length xs;
+          numbered = refl;
+          gives = gives-last (Some 0) h zero;
+          first = before-on (length xs) (λ _. ⊥) (omega arith) y;
+          all = before-more (λ o. o ≡ Some 0) (λ j o lt g. absurd (y j o lt g)) (λ _. zero);
+        })
         (λ t. let ne = eqb-false a 0 t in nonzero-first a e (omega arith) (λ j o lt g. absurd (y j o lt g)))
     more (Some a) e (OnlyZero n) y =
         cond-both (eqb a 0) _ _ (Says (xs ++ l ∷ []) name)
@@ -137,23 +137,23 @@ module _ (xs : List (List ℕ)) (l name : List ℕ) where
         cond-both (eqb a 0) _ _ (Says (xs ++ l ∷ []) name)
         (λ t. stays (At n x) (λ _. inl (e ∙ ap Some (eqb-true a 0 t))) y)
         (λ t. cond-both (eqb x a) _ _ (Says (xs ++ l ∷ []) name)
-          (λ u. stays (At n x) (λ _. inr (e ∙ ap Some (sym (eqb-true x a u)))) y)
-          (λ u.
-            let ne = eqb-false a 0 t in
-            let lt = y .gives .0 in
-            record {
-              at = y .at;
-              numbered = y .numbered;
-              nonzero = y .nonzero;
-              gives = gives-on _ _ (y .gives);
-              first = before-on _ _ (omega arith) (y .first);
-              other = length xs;
-              other-numbered = refl;
-              other-nonzero = omega arith;
-              other-gives = gives-last (Some a) h e;
-              apart = eqb-false x a u;
-              before = before-on (length xs) (ZeroOr x) (omega arith) (y .all);
-            }))
+        (λ u. stays (At n x) (λ _. inr (e ∙ ap Some (sym (eqb-true x a u)))) y)
+        (λ u.
+        let ne = eqb-false a 0 t in
+        let lt = y .gives .0 in
+        record {
+          at = y .at;
+          numbered = y .numbered;
+          nonzero = y .nonzero;
+          gives = gives-on _ _ (y .gives);
+          first = before-on _ _ (omega arith) (y .first);
+          other = length xs;
+          other-numbered = refl;
+          other-nonzero = omega arith;
+          other-gives = gives-last (Some a) h e;
+          apart = eqb-false x a u;
+          before = before-on (length xs) (ZeroOr x) (omega arith) (y .all);
+        }))
     more (Some a) e (TwoAddresses n x m z) y = stays (TwoAddresses n x m z) (λ _. tt) y
     more (Some a) e (Unreadable n) y = stays (Unreadable n) (λ _. tt) y
 

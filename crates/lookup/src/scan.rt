@@ -49,7 +49,11 @@ fn note_line(names: &[String], sightings: &mut [Sighting], line_number: u64, lin
 }
 
 // Takes every line of a source into what is said of each name, and answers how many there were and the end.
-fn note_lines<S: LineSource>(source: &mut S, names: &[String], sightings: &mut [Sighting]) -> (u64, End)
+fn note_lines<S: LineSource>(
+    source: &mut S,
+    names: &[String],
+    sightings: &mut [Sighting],
+) -> (u64, End)
     requires whole { ⌜ length (now sightings) ≡ length (now names) ⌝ }
     requires nothing { ⌜ ((k : ℕ) → k < length (now names) → getD (now sightings) k Unlisted ≡ Unlisted) ⌝ }
     ensures says { λ _. ⌜ ((k : ℕ) → k < length (now (names .entry)) → Says (lines (now (source .entry))) (name-at (now (names .entry)) k) (getD (now (sightings .exit)) k Unlisted)) ⌝ }
@@ -83,7 +87,11 @@ pub struct Report {
 }
 
 /// Reads a source to its end, once, and reports what its lines say of each name; without memory for that, reads nothing.
-pub fn look_up<S: LineSource>(heap: Global, source: &mut S, names: &[String]) -> Result<Report, AllocError>
+pub fn look_up<S: LineSource>(
+    heap: Global,
+    source: &mut S,
+    names: &[String],
+) -> Result<Report, AllocError>
     ensures report { λ r. ⌜ made r (λ report. Reports (now (names .entry)) (lines (now (source .entry))) (end (now (source .entry))) report) ⌝ }
     ensures rest { λ r. ⌜ lines (now (source .exit)) ≡ cond (isOk r) [] (lines (now (source .entry))) ⌝ }
     ensures kept { λ _. ⌜ end (now (source .exit)) ≡ end (now (source .entry)) ⌝ }

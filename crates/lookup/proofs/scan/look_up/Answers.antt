@@ -27,12 +27,12 @@ returns g c =
     let filled = refilled-is (c .in-Continue-sightings .sightings) rows (c .note-lines-lines .kept .sightings ∙ lent .len) in
     record {
       report =
-        record {
-          whole = made .made .1;
-          says = λ k lt. subst (λ (xs : List Sighting). Says (g .S·LineSource .lines (c .args .source .now)) (name-at (c .args .names .now) k) (getD xs k Unlisted)) (sym filled) (told .says k lt);
-          counted = told .count;
-          ended = told .end;
-        };
+          record {
+            whole = made .made .1;
+            says = λ k lt. subst (λ (xs : List Sighting). Says (g .S·LineSource .lines (c .args .source .now)) (name-at (c .args .names .now) k) (getD xs k Unlisted)) (sym filled) (told .says k lt);
+            counted = told .count;
+            ended = told .end;
+          };
       rest = told .rest;
       kept = told .kept;
     }

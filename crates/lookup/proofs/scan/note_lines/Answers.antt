@@ -10,8 +10,7 @@ lines-again g c =
     let h = at-line (g .S·LineSource .lines (c .lines .source)) (c .lines .buffer) (c .in-Line .ensures tt) in
     let l = h .0 in
     let here = line-in l (c .next .last .buffer) (c .in-Line .len) (h .2) (h .4) in
-    let counted = c .saturating-add-count .ensures in
-    (
+    let counted = c .saturating-add-count .ensures in (
       xs ++ l ∷ [],
       read-more xs (g .S·LineSource .lines (c .lines .source)) (g .S·LineSource .lines (c .next .last .self)) (g .S·LineSource .lines (c .args .source .now)) l (c .lines .inv .1) (h .1),
       count-more xs l (c .lines .count) (c .saturating-add-count .result) (c .lines .inv .2) counted,

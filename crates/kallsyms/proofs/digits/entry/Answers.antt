@@ -1,7 +1,7 @@
 use native.Mathlib.Omega.{arith}
 use Rattle.std.proofs.shelf.Counted.{getD-map-counting}
 use Rattle.kallsyms.specs.Address.{digit, entry}
-use Rattle.kallsyms.proofs.digits.digit.Needs as need
+use Rattle.kallsyms.proofs.digits.entry.Needs as need
 
 -- the whole table is the rule at 0 to 255
 pub returns : need.returns
