@@ -35,7 +35,10 @@ fn joined_stops_at_a_fault_of_the_first() -> Result<(), Fail> {
 fn either_reads_the_one_that_it_is() -> Result<(), Fail> {
     let mut buffer = [0u8; 1024];
     let mut left: Either<Text, Joined<Text, Text>> = Either::Left(Text::new(b"a"));
-    let mut right: Either<Text, Joined<Text, Text>> = Either::Right(Joined::new(Text::new(b""), Text::new(b"bc")));
+    let mut right: Either<Text, Joined<Text, Text>> = Either::Right(Joined::new(
+        Text::new(b""),
+        Text::new(b"bc"),
+    ));
     check_eq(left.next(&mut buffer), Next::Line(1))?;
     check_eq(right.next(&mut buffer), Next::Line(2))
 }

@@ -1,2 +1,3 @@
+pub mod Alone
 pub mod Noting
 pub mod Saying
