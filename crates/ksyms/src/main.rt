@@ -1,10 +1,13 @@
 // Says where names stand in a kernel symbol list.
+mod hex;
 mod request;
 mod summary;
 
 use crate::request::Request;
 use crate::summary::Broken;
 use crate::summary::BrokenDisplay;
+use crate::summary::Summary;
+use crate::summary::SummaryDisplay;
 use crate::summary::Told;
 use crate::summary::ToldDisplay;
 use crate::summary::found;
@@ -32,10 +35,12 @@ fn print(rt: &LibcRuntime, names: &[String], report: &Report) -> io::Result<()> 
             }
         )?;
     }
-    let lines = report.lines;
-    let found = found(&report.sightings);
-    let asked = names.len();
-    println!(rt, "{lines} lines read, {found} of {asked} names found")
+    let summary = Summary {
+        lines: report.lines,
+        found: found(&report.sightings),
+        asked: names.len(),
+    };
+    println!(rt, "{summary}")
 }
 
 // Answers what the command line asks.
