@@ -1,4 +1,9 @@
 // Times a scan of a kernel symbol list for names: `bench LIST NAME...`. What the list says goes to the standard output, the time to the standard error.
+ghost use mathlib.Core.Path.{_≡_};
+ghost use Prim.Native.Nat.{_-_, _^_, min};
+ghost use lib.ListN.{length};
+ghost use Rattle.std.specs.Vec.{made};
+ghost use Rattle.kallsyms.specs.Cut.{lines-from};
 use kallsyms::text::Text;
 use kallsyms::text::TextLineSource;
 use lookup::scan::look_up;
@@ -11,7 +16,9 @@ use std::time::Instant;
 const RUNS: u32 = 15;
 
 // How long one scan takes, and how many lines it read.
-fn timed(rt: &LibcRuntime, bytes: &[u8], names: &[String]) -> io::Result<(Duration, u64)> {
+fn timed(rt: &LibcRuntime, bytes: &[u8], names: &[String]) -> io::Result<(Duration, u64)>
+    ensures { λ r. ⌜ made r (λ t. t .1 ≡ min (length (lines-from 1 (now (bytes .entry)))) (2 ^ 64 - 1)) ⌝ }
+{
     let start = Instant::now(rt)?;
     let report = look_up(rt.alloc(), &mut Text::new(bytes), names)?;
     let lines = report.lines;
@@ -19,7 +26,9 @@ fn timed(rt: &LibcRuntime, bytes: &[u8], names: &[String]) -> io::Result<(Durati
 }
 
 // The shortest of several scans, and how many lines each read.
-fn best(rt: &LibcRuntime, bytes: &[u8], names: &[String]) -> io::Result<(Duration, u64)> {
+fn best(rt: &LibcRuntime, bytes: &[u8], names: &[String]) -> io::Result<(Duration, u64)>
+    ensures { λ r. ⌜ made r (λ t. t .1 ≡ min (length (lines-from 1 (now (bytes .entry)))) (2 ^ 64 - 1)) ⌝ }
+{
     let (mut shortest, mut lines) = timed(rt, bytes, names)?;
     for _ in 1..RUNS {
         let (took, read) = timed(rt, bytes, names)?;

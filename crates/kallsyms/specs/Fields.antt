@@ -31,7 +31,7 @@ abbrev pub fields : ℕ → List ℕ → List Part
 fields n [] = []
 fields n (b ∷ bs) = cond (separates b) (fields (suc n) bs) (cond (goes-on bs) (extend n b (fields (suc n) bs)) (record { start = n; bytes = b ∷ [] } ∷ fields (suc n) bs))
 
--- the field of a line at a place from 0 on; one that is not there is empty
+-- the field of a line by its number, from 0; one that is not there is empty
 abbrev pub field : ℕ → List ℕ → Part
 field k l = getD (fields 0 l) k (record { start = 0; bytes = [] })
 
