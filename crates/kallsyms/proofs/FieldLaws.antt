@@ -1,4 +1,4 @@
--- What the fields of a line are, in the words of the line. Assumes nothing.
+-- A line splits into its fields, and into no other parts. Assumes nothing.
 use mathlib.Core.Path.{_≡_, refl, sym, ap, _∙_, subst}
 use mathlib.Core.Bool.{true, false}
 use mathlib.Core.List.{List, [], _∷_, _++_}
@@ -6,100 +6,22 @@ use Prim.Native.Nat.{ℕ, zero, suc, _+_, _-_, _≤_, _<_}
 use native.Mathlib.Omega.{arith}
 use native.Mathlib.Nat.{add-zero, sub-zero}
 use lib.ListN.{length, getD, take, drop, length-append}
-use Rattle.std.proofs.shelf.Tests.{not-true, cond-true, cond-false, cond-both}
-use Rattle.std.proofs.shelf.Lists.{append-nil, getD-append-left, getD-append-add, take-at, drop-at}
+use Rattle.std.proofs.shelf.Tests.{not-true, not-false, both-ways, cond-true, cond-both}
+use Rattle.std.proofs.shelf.Lists.{append-nil, append-assoc, getD-append-left, getD-append-add, take-at, drop-at, drop-drop}
 use Rattle.kallsyms.specs.Fields.{Part, separates, goes-on, extend, fields, field}
-use Rattle.kallsyms.specs.Laws.{Unbroken, FieldsAreParts, WordsAreFields}
+use Rattle.kallsyms.specs.Splits.{Gap, Unbroken, Bounded, Splits}
+use Rattle.kallsyms.specs.Laws.{LinesHaveOneListOfFields, FieldsAreParts, WordsAreFields}
 use Rattle.kallsyms.proofs.Fielded.{take-front}
 
--- a part of what is left of a line from index n on, and each of several
-record PartOf (n : ℕ) (l : List ℕ) (p : Part) : Type 0 where
-  least : n ≤ p .start
-  stands : take (length (p .bytes)) (drop (p .start - n) l) ≡ p .bytes
-  some : 0 < length (p .bytes)
-  unbroken : Unbroken (p .bytes)
+-- a gap is in no field
+gap-skip : (n : ℕ) (g l : List ℕ) → Gap g → fields n (g ++ l) ≡ fields (n + length g) l
+gap-skip n [] l h = ap (λ m. fields m l) (sym (add-zero n))
+gap-skip n (b ∷ g) l h =
+    let z : suc n + length g ≡ n + suc (length g) = omega arith in
+    cond-true _ _ _ (h .0) ∙ gap-skip (suc n) g l (h .1) ∙ ap (λ m. fields m l) z
 
-abbrev PartsOf : ℕ → List ℕ → List Part → Type 0
-PartsOf n l [] = Unit {0}
-PartsOf n l (p ∷ ps) = PartOf n l p × PartsOf n l ps
-
--- with one byte more at the front
-part-more : (n b : ℕ) (l : List ℕ) (p : Part) → PartOf (suc n) l p → PartOf n (b ∷ l) p
-part-more n b l p h =
-    let less : suc n ≤ p .start = h .least in
-    let z : p .start - n ≡ suc (p .start - suc n) = omega arith in
-    record {
-      least = omega arith;
-      stands = ap (λ i. take (length (p .bytes)) (drop i (b ∷ l))) z ∙ h .stands;
-      some = h .some;
-      unbroken = h .unbroken;
-    }
-
-parts-more : (n b : ℕ) (l : List ℕ) (ps : List Part) → PartsOf (suc n) l ps → PartsOf n (b ∷ l) ps
-parts-more n b l [] h = tt
-parts-more n b l (p ∷ ps) h = (part-more n b l p (h .0), parts-more n b l ps (h .1))
-
--- a byte that separates nothing begins the first field
-abbrev StartsAt : ℕ → List Part → Type 0
-StartsAt n [] = Unit {0}
-StartsAt n (p ∷ ps) = p .start ≡ n
-
-starts-extend : (n b : ℕ) (ps : List Part) → StartsAt n (extend n b ps)
-starts-extend n b [] = tt
-starts-extend n b (p ∷ ps) = refl
-
-starts-at : (n : ℕ) (l : List ℕ) → goes-on l ≡ true → StartsAt n (fields n l)
-starts-at n [] e = tt
-starts-at n (b ∷ l) e =
-    subst (StartsAt n) (sym (cond-false _ _ _ (not-true (separates b) e)))
-    (cond-both (goes-on l) _ _ (StartsAt n) (λ _. starts-extend n b (fields (suc n) l)) (λ _. refl))
-
--- so a byte goes before it
-parts-extend : (n b : ℕ) (l : List ℕ) (ps : List Part) → separates b ≡ false → StartsAt (suc n) ps → PartsOf (suc n) l ps → PartsOf n (b ∷ l) (extend n b ps)
-parts-extend n b l [] e s h = tt
-parts-extend n b l (p ∷ ps) e s h =
-    let z : n - n ≡ 0 = omega arith in
-    let y : p .start - suc n ≡ 0 = omega arith in
-    let here : take (length (p .bytes)) l ≡ p .bytes = ap (λ i. take (length (p .bytes)) (drop i l)) (sym y) ∙ h .0 .stands in (
-      record {
-        least = omega arith;
-        stands = ap (λ i. take (suc (length (p .bytes))) (drop i (b ∷ l))) z ∙ ap (λ q. b ∷ q) here;
-        some = omega arith;
-        unbroken = (e, h .0 .unbroken);
-      },
-      parts-more n b l ps (h .1),
-    )
-
-part-one : (n b : ℕ) (l : List ℕ) → separates b ≡ false → PartOf n (b ∷ l) (record { start = n; bytes = b ∷ [] })
-part-one n b l e =
-    let z : n - n ≡ 0 = omega arith in
-    record {
-      least = omega arith;
-      stands = ap (λ i. take 1 (drop i (b ∷ l))) z;
-      some = omega arith;
-      unbroken = (e, tt);
-    }
-
-parts-of : (n : ℕ) (l : List ℕ) → PartsOf n l (fields n l)
-parts-of n [] = tt
-parts-of n (b ∷ l) =
-    let rest = parts-of (suc n) l in
-    cond-both (separates b) _ _ (PartsOf n (b ∷ l))
-    (λ _. parts-more n b l (fields (suc n) l) rest)
-    (λ e. cond-both (goes-on l) _ _ (PartsOf n (b ∷ l))
-    (λ on. parts-extend n b l (fields (suc n) l) e (starts-at (suc n) l on) rest)
-    (λ _. (part-one n b l e, parts-more n b l (fields (suc n) l) rest)))
-
-part-at : (n : ℕ) (l : List ℕ) (ps : List Part) (k : ℕ) (d : Part) → PartsOf n l ps → k < length ps → PartOf n l (getD ps k d)
-part-at n l [] k d h lt = absurd (omega arith)
-part-at n l (p ∷ ps) zero d h lt = h .0
-part-at n l (p ∷ ps) (suc k) d h lt = part-at n l ps k d (h .1) (omega arith)
-
-pub fields-parts : FieldsAreParts
-fields-parts l k lt =
-    let h = part-at 0 l (fields 0 l) k (record { start = 0; bytes = [] }) (parts-of 0 l) lt in
-    let z = sub-zero (field k l .start) in
-    (ap (λ i. take (length (field k l .bytes)) (drop i l)) (sym z) ∙ h .stands, h .some, h .unbroken)
+gap-none : (n : ℕ) (l : List ℕ) → Gap l → fields n l ≡ []
+gap-none n l h = ap (fields n) (sym (append-nil l)) ∙ gap-skip n l [] h
 
 -- a word at the front is the first field
 unbroken-at : (w : List ℕ) → Unbroken w → (j : ℕ) → j < length w → separates (getD w j 0) ≡ false
@@ -107,30 +29,137 @@ unbroken-at [] u j lt = absurd (omega arith)
 unbroken-at (b ∷ w) u zero lt = u .0
 unbroken-at (b ∷ w) u (suc j) lt = unbroken-at w (u .1) j (omega arith)
 
-first-word : (n : ℕ) (w l : List ℕ) → Unbroken w → 0 < length w → (0 < length l → separates (getD l 0 0) ≡ true) → fields n (w ++ l) ≡ record { start = n; bytes = w } ∷ fields (n + length w) l
-first-word n w l u h f =
+bounded-at : (l : List ℕ) → Bounded l → 0 < length l → separates (getD l 0 0) ≡ true
+bounded-at [] b lt = absurd (omega arith)
+bounded-at (x ∷ l) b lt = b
+
+first-word : (n : ℕ) (w l : List ℕ) → Unbroken w → 0 < length w → Bounded l → fields n (w ++ l) ≡ record { start = n; bytes = w } ∷ fields (n + length w) l
+first-word n w l u h b =
     let len = length-append w l in
     let at = getD-append-add w l 0 0 in
     let z = add-zero (length w) in
     take-front (w ++ l) n (length w) h (omega arith)
     (λ j lt. ap separates (getD-append-left w l 0 j lt) ∙ unbroken-at w u j lt)
-    (λ lt. ap (λ i. separates (getD (w ++ l) i 0)) (sym z) ∙ ap separates at ∙ f (omega arith))
+    (λ lt. ap (λ i. separates (getD (w ++ l) i 0)) (sym z) ∙ ap separates at ∙ bounded-at l b (omega arith))
     ∙ ap (λ x. record { start = n; bytes = x } ∷ fields (n + length w) (drop (length w) (w ++ l))) (take-at w l (length w) refl)
     ∙ ap (λ x. record { start = n; bytes = w } ∷ fields (n + length w) x) (drop-at w l (length w) refl)
 
-word-then : (n : ℕ) (w : List ℕ) (s : ℕ) (l : List ℕ) → separates s ≡ true → Unbroken w → 0 < length w → fields n (w ++ s ∷ l) ≡ record { start = n; bytes = w } ∷ fields (n + length w + 1) l
-word-then n w s l e u h =
-    let z : suc (n + length w) ≡ n + length w + 1 = omega arith in
-    first-word n w (s ∷ l) u h (λ _. e)
-    ∙ ap (λ x. record { start = n; bytes = w } ∷ x) (cond-true _ _ _ e ∙ ap (λ m. fields m l) z)
+-- so a line splits into its fields at most
+alone : (n : ℕ) (ps : List Part) (l : List ℕ) → Splits n ps l → ps ≡ fields n l
+alone n [] l h = sym (gap-none n l h)
+alone n (p ∷ ps) l h =
+    let rest = h .1 in
+    ap (λ x. p ∷ x) (alone (p .start + length (p .bytes)) ps rest (h .8))
+    ∙ sym
+    (ap (fields n) (h .2)
+    ∙ gap-skip n (h .0) (p .bytes ++ rest) (h .3)
+    ∙ ap (λ m. fields m (p .bytes ++ rest)) (sym (h .4))
+    ∙ first-word (p .start) (p .bytes) rest (h .6) (h .5) (h .7))
 
-word-last : (n : ℕ) (w : List ℕ) → Unbroken w → 0 < length w → fields n w ≡ record { start = n; bytes = w } ∷ []
-word-last n w u h = ap (fields n) (sym (append-nil w)) ∙ first-word n w [] u h (λ lt. absurd (omega arith))
+-- one byte before a line that splits: a separator
+gap-onto : (n b : ℕ) (ps : List Part) (l : List ℕ) → separates b ≡ true → Splits (suc n) ps l → Splits n ps (b ∷ l)
+gap-onto n b [] l e h = (e, h)
+gap-onto n b (p ∷ ps) l e h =
+    let at = h .4 in
+    (b ∷ h .0, h .1, ap (λ x. b ∷ x) (h .2), (e, h .3), omega arith, h .5, h .6, h .7, h .8)
+
+-- a byte of a field of its own
+bounds : (l : List ℕ) → goes-on l ≡ false → Bounded l
+bounds [] e = tt
+bounds (c ∷ l) e = not-false (separates c) e
+
+part-onto : (n b : ℕ) (ps : List Part) (l : List ℕ) → separates b ≡ false → goes-on l ≡ false → Splits (suc n) ps l → Splits n (record { start = n; bytes = b ∷ [] } ∷ ps) (b ∷ l)
+part-onto n b ps l e f h =
+    let z : suc n ≡ n + 1 = omega arith in
+    ([], l, refl, tt, sym (add-zero n), omega arith, (e, tt), bounds l f, subst (λ (m : ℕ). Splits m ps l) z h)
+
+-- a byte of the first field
+extend-at : (n b : ℕ) (p : Part) (ps : List Part) (l gap rest : List ℕ) → separates b ≡ false → goes-on l ≡ true → l ≡ gap ++ (p .bytes ++ rest) → Gap gap → p .start ≡ suc n + length gap → Unbroken (p .bytes) → Bounded rest → Splits (p .start + length (p .bytes)) ps rest → Splits n (record { start = n; bytes = b ∷ p .bytes } ∷ ps) (b ∷ l)
+extend-at n b p ps l [] rest e f s g at u bound more =
+    let z : p .start + length (p .bytes) ≡ n + suc (length (p .bytes)) = omega arith in
+    ([], rest, ap (λ x. b ∷ x) s, tt, sym (add-zero n), omega arith, (e, u), bound, subst (λ (m : ℕ). Splits m ps rest) z more)
+extend-at n b p ps l (c ∷ gap) rest e f s g at u bound more =
+    absurd (both-ways (separates c) (not-true (separates c) (ap goes-on (sym s) ∙ f)) (g .0))
+
+extend-onto : (n b : ℕ) (ps : List Part) (l : List ℕ) → separates b ≡ false → goes-on l ≡ true → Splits (suc n) ps l → Splits n (extend n b ps) (b ∷ l)
+extend-onto n b [] [] e f h = absurd (both-ways false refl f)
+extend-onto n b [] (c ∷ l) e f h = absurd (both-ways (separates c) (not-true (separates c) f) (h .0))
+extend-onto n b (p ∷ ps) l e f h = extend-at n b p ps l (h .0) (h .1) e f (h .2) (h .3) (h .4) (h .6) (h .7) (h .8)
+
+-- and so a line splits into its fields
+splits : (n : ℕ) (l : List ℕ) → Splits n (fields n l) l
+splits n [] = tt
+splits n (b ∷ l) =
+    let rest = splits (suc n) l in
+    cond-both (separates b) _ _ (λ ps. Splits n ps (b ∷ l))
+    (λ e. gap-onto n b (fields (suc n) l) l e rest)
+    (λ e. cond-both (goes-on l) _ _ (λ ps. Splits n ps (b ∷ l)) (λ f. extend-onto n b (fields (suc n) l) l e f rest) (λ f. part-onto n b (fields (suc n) l) l e f rest))
+
+pub one-list : LinesHaveOneListOfFields
+one-list l = (splits 0 l, λ ps h. alone 0 ps l h)
+
+-- a part that a line splits into stands in it
+drop-past : (xs ys : List ℕ) (k : ℕ) → drop (length xs + k) (xs ++ ys) ≡ drop k ys
+drop-past xs ys k = sym (drop-drop k (length xs) (xs ++ ys)) ∙ ap (drop k) (drop-at xs ys (length xs) refl)
+
+part-at : (n : ℕ) (ps : List Part) (l : List ℕ) (k : ℕ) (d : Part) → Splits n ps l → k < length ps → (n ≤ getD ps k d .start) × (take (length (getD ps k d .bytes)) (drop (getD ps k d .start - n) l) ≡ getD ps k d .bytes) × (0 < length (getD ps k d .bytes)) × Unbroken (getD ps k d .bytes)
+part-at n [] l k d h lt = absurd (omega arith)
+part-at n (p ∷ ps) l zero d h lt =
+    let at = h .4 in
+    let z : p .start - n ≡ length (h .0) = omega arith in (
+      omega arith,
+      ap (λ i. take (length (p .bytes)) (drop i l)) z
+          ∙ ap (λ x. take (length (p .bytes)) (drop (length (h .0)) x)) (h .2)
+          ∙ ap (take (length (p .bytes))) (drop-at (h .0) (p .bytes ++ h .1) (length (h .0)) refl)
+          ∙ take-at (p .bytes) (h .1) (length (p .bytes)) refl,
+      h .5,
+      h .6,
+    )
+part-at n (p ∷ ps) l (suc k) d h lt =
+    let at = h .4 in
+    let q = getD ps k d in
+    let next = p .start + length (p .bytes) in
+    let more = part-at next ps (h .1) k d (h .8) (omega arith) in
+    let less : next ≤ q .start = more .0 in
+    let len = length-append (h .0) (p .bytes) in
+    let z : q .start - n ≡ length (h .0 ++ p .bytes) + (q .start - next) = omega arith in
+    let whole = h .2 ∙ sym (append-assoc (h .0) (p .bytes) (h .1)) in (
+      omega arith,
+      ap (λ i. take (length (q .bytes)) (drop i l)) z
+          ∙ ap (λ x. take (length (q .bytes)) (drop (length (h .0 ++ p .bytes) + (q .start - next)) x)) whole
+          ∙ ap (take (length (q .bytes))) (drop-past (h .0 ++ p .bytes) (h .1) (q .start - next))
+          ∙ more .1,
+      more .2,
+      more .3,
+    )
+
+pub fields-parts : FieldsAreParts
+fields-parts l k lt =
+    let h = part-at 0 (fields 0 l) l k (record { start = 0; bytes = [] }) (splits 0 l) lt in
+    let z = sub-zero (field k l .start) in
+    (ap (λ i. take (length (field k l .bytes)) (drop i l)) (sym z) ∙ h .1, h .2, h .3)
 
 pub words-fields : WordsAreFields
 words-fields a t n s u es eu ua ut un ha ht hn =
-    let z : 0 + length a + 1 ≡ length a + 1 = omega arith in
-    let rest = t ++ u ∷ n in
-    word-then 0 a s rest es ua ha
-    ∙ ap (λ m. record { start = 0; bytes = a } ∷ fields m rest) z
-    ∙ ap (λ x. record { start = 0; bytes = a } ∷ x) (word-then (length a + 1) t u n eu ut ht ∙ ap (λ x. record { start = length a + 1; bytes = t } ∷ x) (word-last (length a + 1 + length t + 1) n un hn))
+    sym
+    (alone 0 _ (a ++ (s ∷ (t ++ (u ∷ n)))) (
+      [],
+      s ∷ (t ++ (u ∷ n)),
+      refl,
+      tt,
+      omega arith,
+      ha,
+      ua,
+      es,
+      (
+        s ∷ [],
+        u ∷ n,
+        refl,
+        (es, tt),
+        omega arith,
+        ht,
+        ut,
+        eu,
+        (u ∷ [], [], ap (λ x. u ∷ x) (sym (append-nil n)), (eu, tt), omega arith, hn, un, tt, tt),
+      ),
+    ))

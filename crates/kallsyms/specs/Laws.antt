@@ -9,7 +9,8 @@ use Rattle.std.specs.declared.option.Option.the-variants.{Some, None}
 use Rattle.kallsyms.specs.Line.{GoodLine}
 use Rattle.kallsyms.specs.Means.{NoFeed, NoReturn, OneMeaning}
 use Rattle.kallsyms.specs.Cut.{lines-from, end-from}
-use Rattle.kallsyms.specs.Fields.{separates, fields, field}
+use Rattle.kallsyms.specs.Fields.{Part, separates, fields, field}
+use Rattle.kallsyms.specs.Splits.{Unbroken, Splits}
 use Rattle.kallsyms.specs.Address.{address}
 use Rattle.kallsyms.specs.declared.ends.End.the-variants.{Clean}
 
@@ -39,10 +40,9 @@ ReturnedLinesAreRead =
     (ls : List (List ℕ)) → Each (λ l. GoodLine l × NoFeed l) ls
     → (lines-from 1 (written (13 ∷ 10 ∷ []) ls) ≡ ls) × (end-from 1 (written (13 ∷ 10 ∷ []) ls) ≡ Clean)
 
--- no byte separates fields
-abbrev pub Unbroken : List ℕ → Type 0
-Unbroken [] = Unit {0}
-Unbroken (b ∷ bs) = (separates b ≡ false) × Unbroken bs
+-- every line splits into the fields that are found in it, and into no others
+abbrev pub LinesHaveOneListOfFields : Type 0
+LinesHaveOneListOfFields = (l : List ℕ) → Splits 0 (fields 0 l) l × ((ps : List Part) → Splits 0 ps l → ps ≡ fields 0 l)
 
 -- a field stands in the line at its place, is not empty, and has no separator
 abbrev pub FieldsAreParts : Type 0

@@ -7,6 +7,7 @@ pub mod Choices
 pub mod Goodness
 pub mod Fields
 pub mod Shown
+pub mod Splits
 pub mod Address
 pub mod Means
 pub mod Laws

@@ -1,5 +1,5 @@
 // Theorems about the definitions that the contracts of this crate cite: each function's contract is one.
-ghost use Rattle.kallsyms.specs.Laws.{TextsHaveOneMeaning, WrittenLinesAreRead, ReturnedLinesAreRead, FieldsAreParts, WordsAreFields, AddressCases};
+ghost use Rattle.kallsyms.specs.Laws.{TextsHaveOneMeaning, WrittenLinesAreRead, ReturnedLinesAreRead, LinesHaveOneListOfFields, FieldsAreParts, WordsAreFields, AddressCases};
 
 /// Every text has one meaning: the lines and the end that its source has.
 pub fn texts_have_one_meaning()
@@ -14,6 +14,11 @@ pub fn written_lines_are_read()
 /// So does a text of good lines with a carriage return and a line feed after each.
 pub fn returned_lines_are_read()
     ensures { λ _. ⌜ ReturnedLinesAreRead ⌝ }
+{}
+
+/// Every line has one list of fields: those that are found in it.
+pub fn lines_have_one_list_of_fields()
+    ensures { λ _. ⌜ LinesHaveOneListOfFields ⌝ }
 {}
 
 /// A field is a part of its line at its place, not empty and without separators.
