@@ -7,6 +7,7 @@ ghost use Rattle.kallsyms.specs.Cut.{lines-from};
 use kallsyms::text::Text;
 use kallsyms::text::TextLineSource;
 use lookup::scan::look_up;
+use lookup::sighting::Sighting;
 use std::env;
 use std::fs;
 use std::io;
@@ -19,10 +20,10 @@ const RUNS: u32 = 15;
 fn timed(rt: &LibcRuntime, bytes: &[u8], names: &[String]) -> io::Result<(Duration, u64)>
     ensures { λ r. ⌜ made r (λ t. t .1 ≡ min (length (lines-from 1 (now (bytes .entry)))) (2 ^ 64 - 1)) ⌝ }
 {
+    let mut sightings = vec![in rt.alloc(); Sighting::Unlisted; names.len()]?;
     let start = Instant::now(rt)?;
-    let report = look_up(rt.alloc(), &mut Text::new(bytes), names)?;
-    let lines = report.lines;
-    Ok((start.elapsed(rt)?, lines))
+    let reading = look_up(&mut Text::new(bytes), names, &mut sightings);
+    Ok((start.elapsed(rt)?, reading.lines))
 }
 
 // The shortest of several scans, and how many lines each read.

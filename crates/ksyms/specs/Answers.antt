@@ -1,18 +1,18 @@
 -- What the tool writes for a list and names. Assumes nothing.
 use mathlib.Core.Path.{_≡_}
 use mathlib.Core.List.{List, [], _∷_, _++_, map}
-use Prim.Native.Nat.{ℕ}
-use lib.ListN.{length}
+use Prim.Native.Nat.{ℕ, _-_, _^_, _<_, min}
+use lib.ListN.{length, getD}
 use Rattle.std.specs.Of.String.{string-bytes}
-use Rattle.std.specs.Of.Vec.{vec-items}
 use Rattle.std.specs.declared.string.String.{String}
 use Rattle.std.specs.declared.alloc.Global.{Global}
 use Rattle.kallsyms.specs.Cut.{lines-from, end-from}
 use Rattle.kallsyms.specs.declared.ends.End.{End}
 use Rattle.kallsyms.specs.declared.ends.End.the-variants.{Clean, Broken}
-use Rattle.lookup.specs.Reports.{Reports}
-use Rattle.lookup.specs.declared.scan.Report.{Report}
+use Rattle.lookup.specs.Noted.{name-at}
+use Rattle.lookup.specs.Says.{Says}
 use Rattle.lookup.specs.declared.sighting.Sighting.{Sighting}
+use Rattle.lookup.specs.declared.sighting.Sighting.the-variants.{Unlisted}
 use Rattle.ksyms.specs.Found.{found-in}
 use Rattle.ksyms.specs.Texts.{told-text, broken-text, summary-text}
 
@@ -31,14 +31,13 @@ told-lines [] ss = []
 told-lines (n ∷ ns) [] = []
 told-lines (n ∷ ns) (s ∷ ss) = line-of (told-text n s) ++ told-lines ns ss
 
--- a report as text: a line for a list that is broken, a line for each name, and a line for the whole
-abbrev pub report-text : List (String Global) → Report → List ℕ
-report-text names r =
-    (end-lines (r .end) ++ told-lines (map string-bytes names) (vec-items (r .sightings)))
-    ++ line-of (summary-text (r .lines) (found-in (vec-items (r .sightings))) (length names))
+-- the whole text: a line for a list that is broken, a line for each name, and a line for the whole
+abbrev pub answer-text : List (String Global) → List Sighting → ℕ → End → List ℕ
+answer-text names ss lines e = (end-lines e ++ told-lines (map string-bytes names) ss) ++ line-of (summary-text lines (found-in ss) (length names))
 
--- a text is a report on what the lines of these bytes say of the names
+-- a text tells, for each name, what the lines of these bytes say of it, and how many lines there are and how they end
 pub record Answers (bytes : List ℕ) (names : List (String Global)) (text : List ℕ) : Type 0 where
-  pub report : Report
-  pub reports : Reports names (lines-from 1 bytes) (end-from 1 bytes) report
-  pub written : text ≡ report-text names report
+  pub sightings : List Sighting
+  pub whole : length sightings ≡ length names
+  pub says : (k : ℕ) → k < length names → Says (lines-from 1 bytes) (name-at names k) (getD sightings k Unlisted)
+  pub written : text ≡ answer-text names sightings (min (length (lines-from 1 bytes)) (2 ^ 64 - 1)) (end-from 1 bytes)

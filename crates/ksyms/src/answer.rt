@@ -3,9 +3,8 @@ ghost use mathlib.Core.Path.{_≡_};
 ghost use mathlib.Core.List.{_++_, map};
 ghost use lib.ListN.{length};
 ghost use Rattle.std.specs.Of.String.{string-bytes};
-ghost use Rattle.std.specs.Of.Vec.{vec-len};
 ghost use Rattle.std.specs.Vec.{made};
-ghost use Rattle.ksyms.specs.Answers.{line-of, end-lines, told-lines, report-text, Answers};
+ghost use Rattle.ksyms.specs.Answers.{line-of, end-lines, told-lines, answer-text, Answers};
 ghost use Rattle.ksyms.specs.Texts.{told-text};
 use crate::summary::Broken;
 use crate::summary::BrokenDisplay;
@@ -17,7 +16,7 @@ use crate::summary::found;
 use kallsyms::ends::End;
 use kallsyms::text::Text;
 use kallsyms::text::TextLineSource;
-use lookup::scan::Report;
+use lookup::scan::Reading;
 use lookup::scan::look_up;
 use lookup::sighting::Sighting;
 use std::alloc::AllocError;
@@ -61,16 +60,21 @@ fn add_names(
     Ok(())
 }
 
-// A report as text.
-fn report_text(heap: Global, names: &[String], report: &Report) -> Result<String, AllocError>
-    requires { ⌜ vec-len (now report .sightings) ≡ length (now names) ⌝ }
-    ensures { λ r. ⌜ made r (λ s. string-bytes s ≡ report-text (now (names .entry)) (now (report .entry))) ⌝ }
+// What is told of the names, as text.
+fn answer_text(
+    heap: Global,
+    names: &[String],
+    sightings: &[Sighting],
+    reading: Reading,
+) -> Result<String, AllocError>
+    requires { ⌜ length (now sightings) ≡ length (now names) ⌝ }
+    ensures { λ r. ⌜ made r (λ s. string-bytes s ≡ answer-text (now (names .entry)) (now (sightings .entry)) (reading .lines) (reading .end)) ⌝ }
 {
-    let mut text = end_lines(heap, report.end)?;
-    add_names(heap, &mut text, names, &report.sightings)?;
+    let mut text = end_lines(heap, reading.end)?;
+    add_names(heap, &mut text, names, sightings)?;
     let summary = Summary {
-        lines: report.lines,
-        found: found(&report.sightings),
+        lines: reading.lines,
+        found: found(sightings),
         asked: names.len(),
     };
     let last = format!(heap, "{summary}\n")?;
@@ -82,7 +86,8 @@ fn report_text(heap: Global, names: &[String], report: &Report) -> Result<String
 pub fn answer(heap: Global, bytes: &[u8], names: &[String]) -> Result<String, AllocError>
     ensures { λ r. ⌜ made r (λ s. Answers (now (bytes .entry)) (now (names .entry)) (string-bytes s)) ⌝ }
 {
+    let mut sightings = vec![in heap; Sighting::Unlisted; names.len()]?;
     let mut text = Text::new(bytes);
-    let report = look_up(heap, &mut text, names)?;
-    report_text(heap, names, &report)
+    let reading = look_up(&mut text, names, &mut sightings);
+    answer_text(heap, names, &sightings, reading)
 }

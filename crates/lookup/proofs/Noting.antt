@@ -3,13 +3,13 @@ use mathlib.Core.Path.{_≡_, refl, sym, ap, _∙_}
 use mathlib.Core.Bool.{Bool, true, false, cond, _&&_}
 use mathlib.Core.Logic.{_≢_, ⊎-elim}
 use mathlib.Core.List.{List, [], _∷_, map}
-use Prim.Native.Nat.{ℕ, _+_, _≤_, _<_}
+use Prim.Native.Nat.{ℕ, zero, suc, _+_, _≤_, _<_}
 use native.Mathlib.Omega.{arith}
 use lib.Dec.{leb, ltb}
-use lib.ListN.{length, getD, set}
+use lib.ListN.{length, getD, set, replicate}
 use Rattle.std.proofs.shelf.Equals.{sameBytes-decides}
 use Rattle.std.proofs.shelf.Ways.{not-from-decides}
-use Rattle.std.proofs.shelf.Tests.{le-leb, lt-leb, lt-ltb, le-ltb, and-from, and-left, and-right, cond-true, cond-false, cases-bool, cases-order, cases-eq}
+use Rattle.std.proofs.shelf.Tests.{le-leb, lt-leb, lt-ltb, le-ltb, and-from, and-left, and-right, cond-true, cond-false, cond-both, cases-bool, cases-order, cases-eq}
 use Rattle.std.proofs.shelf.Lists.{getD-set-same, getD-set-other, getD-map}
 use Rattle.std.specs.Of.String.{string-bytes}
 use Rattle.std.specs.shelf.Text.{sameBytes}
@@ -41,22 +41,28 @@ module _ (n : ℕ) (l name : List ℕ) (s : Sighting) where
 pub name-read : (names : List (String Global)) (i : ℕ) (x : String Global) → i < length names → x ≡ getD names i x → name-at names i ≡ string-bytes x
 name-read names i x lt e = getD-map string-bytes names i x [] lt ∙ ap string-bytes (sym e)
 
-module _ (len i : ℕ) (old rows : List Sighting) (new : ℕ → Sighting) (before : (k : ℕ) → k < len → getD rows k Unlisted ≡ cond (ltb k i) (new k) (getD old k Unlisted)) where
+module _ (i : ℕ) (old rows : List Sighting) (new : ℕ → Sighting) (before : (k : ℕ) → getD rows k Unlisted ≡ cond (ltb k i) (new k) (getD old k Unlisted)) where
   -- the row that is next is as it was
-  pub row-same : i < len → getD rows i Unlisted ≡ getD old i Unlisted
-  row-same lt = before i lt ∙ cond-false _ _ _ (le-ltb i i (omega arith))
+  pub row-same : getD rows i Unlisted ≡ getD old i Unlisted
+  row-same = before i ∙ cond-false _ _ _ (le-ltb i i (omega arith))
 
   -- one row more is set
-  pub row-more : (s : Sighting) → length rows ≡ len → i < len → s ≡ new i → (k : ℕ) → k < len → getD (set rows i s) k Unlisted ≡ cond (ltb k (i + 1)) (new k) (getD old k Unlisted)
-  row-more s whole lt e k h =
+  pub row-more : (s : Sighting) → i < length rows → s ≡ new i → (k : ℕ) → getD (set rows i s) k Unlisted ≡ cond (ltb k (i + 1)) (new k) (getD old k Unlisted)
+  row-more s lt e k =
       let here : k ≡ i → getD (set rows i s) k Unlisted ≡ cond (ltb k (i + 1)) (new k) (getD old k Unlisted) =
-      λ z. ap (λ j. getD (set rows i s) j Unlisted) z ∙ getD-set-same rows i s Unlisted (omega arith) ∙ e ∙ ap new (sym z) ∙ sym (cond-true _ _ _ (lt-ltb k (i + 1) (omega arith))) in
+      λ z. ap (λ j. getD (set rows i s) j Unlisted) z ∙ getD-set-same rows i s Unlisted lt ∙ e ∙ ap new (sym z) ∙ sym (cond-true _ _ _ (lt-ltb k (i + 1) (omega arith))) in
       let below : k < i → getD (set rows i s) k Unlisted ≡ cond (ltb k (i + 1)) (new k) (getD old k Unlisted) =
-      λ z. let ne : k ≢ i = omega arith in getD-set-other rows i k s Unlisted ne ∙ before k h ∙ cond-true _ _ _ (lt-ltb k i z) ∙ sym (cond-true _ _ _ (lt-ltb k (i + 1) (omega arith))) in
+      λ z. let ne : k ≢ i = omega arith in getD-set-other rows i k s Unlisted ne ∙ before k ∙ cond-true _ _ _ (lt-ltb k i z) ∙ sym (cond-true _ _ _ (lt-ltb k (i + 1) (omega arith))) in
       let above : i < k → getD (set rows i s) k Unlisted ≡ cond (ltb k (i + 1)) (new k) (getD old k Unlisted) =
-      λ z. let ne : k ≢ i = omega arith in getD-set-other rows i k s Unlisted ne ∙ before k h ∙ cond-false _ _ _ (le-ltb k i (omega arith)) ∙ sym (cond-false _ _ _ (le-ltb k (i + 1) (omega arith))) in
+      λ z. let ne : k ≢ i = omega arith in getD-set-other rows i k s Unlisted ne ∙ before k ∙ cond-false _ _ _ (le-ltb k i (omega arith)) ∙ sym (cond-false _ _ _ (le-ltb k (i + 1) (omega arith))) in
       ⊎-elim here (⊎-elim below above) (cases-order k i)
 
-  -- all rows are set
-  pub row-all : len ≤ i → (k : ℕ) → k < len → getD rows k Unlisted ≡ new k
-  row-all all k h = before k h ∙ cond-true _ _ _ (lt-ltb k i (omega arith))
+-- a row that a line says nothing of
+pub row-kept : (t : Bool) (s r : Sighting) → s ≡ r → r ≡ cond t s r
+row-kept t s r e = cond-both t s r (λ x. r ≡ x) (λ _. sym e) (λ _. refl)
+
+-- rows that are all unlisted
+pub all-unlisted : (n k : ℕ) → getD (replicate n Unlisted) k Unlisted ≡ Unlisted
+all-unlisted zero k = refl
+all-unlisted (suc n) zero = refl
+all-unlisted (suc n) (suc k) = all-unlisted n k

@@ -1,5 +1,4 @@
 pub mod After
 pub mod Noted
 pub mod Says
-pub mod Reports
 pub mod Laws
