@@ -10,7 +10,7 @@ use native.Mathlib.Numerals.{add-one}
 use lib.ListN.{length, getD, take, drop, length-drop, length-take}
 use Rattle.std.proofs.shelf.Tests.{cond-true, cond-false, true≢false, both-ways, cases-lt}
 use Rattle.std.proofs.shelf.Lists.{getD-drop, drop-drop, drop-all}
-use Rattle.kallsyms.specs.Fields.{Part, separates, goes-on, extend, fields, Begins}
+use Rattle.kallsyms.specs.Fields.{Part, separates, extend, fields, Begins}
 
 pub unlike : (s t : Bool) → Bool·beq s t ≡ false → s ≡ not t
 unlike true true e = absurd (true≢false e)

@@ -1,10 +1,10 @@
 -- What follows from the definitions, in the words of a reader of kernel lists. Assumes nothing.
 use mathlib.Core.Path.{_≡_}
-use mathlib.Core.Bool.{true, false}
+use mathlib.Core.Bool.{true}
 use mathlib.Core.List.{List, [], _∷_, _++_}
 use Prim.Native.Nat.{ℕ, _+_, _<_}
 use lib.Chars.{codes}
-use lib.ListN.{length, getD, take, drop}
+use lib.ListN.{length, take, drop}
 use Rattle.std.specs.declared.option.Option.the-variants.{Some, None}
 use Rattle.kallsyms.specs.Line.{GoodLine}
 use Rattle.kallsyms.specs.Means.{NoFeed, NoReturn, OneMeaning}

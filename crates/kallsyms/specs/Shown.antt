@@ -1,7 +1,6 @@
 -- What a value of `Fields` shows. Assumes nothing.
 use mathlib.Core.Path.{_≡_}
 use denote.Ref.{now}
-use Prim.Native.Nat.{ℕ}
 use Rattle.kallsyms.specs.Fields.{Part, field}
 use Rattle.kallsyms.specs.declared.fields.Field.{Field}
 use Rattle.kallsyms.specs.declared.fields.Fields.{Fields}

@@ -1,7 +1,7 @@
 // A line of a kernel list as fields: an address, a letter, a name, and what may follow.
 ghost use mathlib.Core.Path.{_≡_};
 ghost use mathlib.Core.Bool.{not};
-ghost use mathlib.Core.List.{[], _∷_};
+ghost use mathlib.Core.List.{[]};
 ghost use Prim.Native.Nat.{ℕ, _+_, _≤_, _<_};
 ghost use lib.ListN.{length, getD, drop};
 ghost use Rattle.kallsyms.specs.Fields.{separates, Begins, fields as fields-from, field as field-of};

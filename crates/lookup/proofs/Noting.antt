@@ -1,15 +1,14 @@
 -- A line that lists a name, and one that does not. Assumes nothing.
 use mathlib.Core.Path.{_≡_, refl, sym, ap, _∙_}
-use mathlib.Core.Bool.{Bool, true, false, cond, _&&_}
+use mathlib.Core.Bool.{Bool, false, cond}
 use mathlib.Core.Logic.{_≢_, ⊎-elim}
-use mathlib.Core.List.{List, [], _∷_, map}
+use mathlib.Core.List.{List, []}
 use Prim.Native.Nat.{ℕ, zero, suc, _+_, _≤_, _<_}
 use native.Mathlib.Omega.{arith}
 use lib.Dec.{leb, ltb}
 use lib.ListN.{length, getD, set, replicate}
 use Rattle.std.proofs.shelf.Equals.{sameBytes-decides}
-use Rattle.std.proofs.shelf.Ways.{not-from-decides}
-use Rattle.std.proofs.shelf.Tests.{le-leb, lt-leb, lt-ltb, le-ltb, and-from, and-left, and-right, cond-true, cond-false, cond-both, cases-bool, cases-order, cases-eq}
+use Rattle.std.proofs.shelf.Tests.{le-leb, lt-leb, lt-ltb, le-ltb, and-from, and-left, and-right, cond-true, cond-false, cond-both, cases-bool, cases-order}
 use Rattle.std.proofs.shelf.Lists.{getD-set-same, getD-set-other, getD-map}
 use Rattle.std.specs.Of.String.{string-bytes}
 use Rattle.std.specs.shelf.Text.{sameBytes}

@@ -1,12 +1,12 @@
 -- What lines say of a name, with one line more. Assumes nothing.
 use mathlib.Core.Path.{_≡_, refl, sym, ap, subst, _∙_}
-use mathlib.Core.Bool.{true, false, cond}
+use mathlib.Core.Bool.{true, false}
 use mathlib.Core.Logic.{inl, inr, ⊎-elim}
 use mathlib.Core.List.{List, [], _∷_, _++_}
 use Prim.Native.Nat.{ℕ, _+_, _-_, _^_, _≤_, _<_, min}
 use native.Mathlib.Omega.{arith}
 use lib.Dec.{eqb, leb}
-use lib.ListN.{length, getD, length-append}
+use lib.ListN.{length, length-append}
 use Rattle.std.proofs.shelf.Equals.{sameBytes-decides}
 use Rattle.std.proofs.shelf.Tests.{leb-true, le-leb, eqb-true, eqb-false, and-parts, and-from, both-ways, cond-both, cases-lt}
 use Rattle.std.proofs.shelf.Lists.{append-assoc, getD-append-left, getD-at}
@@ -172,10 +172,6 @@ module _ (xs : List (List ℕ)) (l name : List ℕ) where
       cond-both (lists name l) _ _ (Says (xs ++ l ∷ []) name)
       (λ t. more (listed t) (address (field 0 l .bytes)) refl s y)
       (λ f. stays s (λ h. absurd (unlisted f h)) y)
-
--- no line says nothing
-pub nothing-said : (name : List ℕ) → Says [] name Unlisted
-nothing-said name j a lt g = omega arith
 
 -- one line more is read and counted
 pub read-more : (xs ls ls′ whole : List (List ℕ)) (l : List ℕ) → xs ++ ls ≡ whole → ls ≡ l ∷ ls′ → (xs ++ l ∷ []) ++ ls′ ≡ whole

@@ -2,13 +2,13 @@
 ghost use mathlib.Core.Path.{_≡_};
 ghost use mathlib.Core.Bool.{cond};
 ghost use mathlib.Core.List.{[]};
-ghost use Prim.Native.Nat.{ℕ, _-_, _^_, _≤_, _<_, min};
+ghost use Prim.Native.Nat.{ℕ, _≤_, min};
 ghost use Rattle.kallsyms.specs.Fields.{fields as fields-of};
 ghost use Rattle.kallsyms.specs.Shown.{Shows};
 ghost use lib.Dec.{ltb};
 ghost use lib.ListN.{length, getD};
+ghost use Rattle.lookup.specs.LookedUp.{LookedUp};
 ghost use Rattle.lookup.specs.Noted.{noted as noted-of, name-at};
-ghost use Rattle.lookup.specs.Says.{Says};
 ghost use Rattle.lookup.specs.declared.sighting.Sighting.the-variants.{Unlisted};
 use crate::sighting::Sighting;
 use kallsyms::address::read_address;
@@ -62,10 +62,7 @@ fn note_lines<S: LineSource>(
     sightings: &mut [Sighting],
 ) -> Reading
     requires { ⌜ ((k : ℕ) → getD (now sightings) k Unlisted ≡ Unlisted) ⌝ }
-    ensures says { λ _. ⌜ ((k : ℕ) → k < length (now (names .entry)) → k < length (now (sightings .entry)) → Says (lines (now (source .entry))) (name-at (now (names .entry)) k) (getD (now (sightings .exit)) k Unlisted)) ⌝ }
-    ensures spare { λ _. ⌜ ((k : ℕ) → length (now (names .entry)) ≤ k → getD (now (sightings .exit)) k Unlisted ≡ Unlisted) ⌝ }
-    ensures count { λ r. ⌜ r .lines ≡ min (length (lines (now (source .entry)))) (2 ^ 64 - 1) ⌝ }
-    ensures end { λ r. ⌜ r .end ≡ end (now (source .entry)) ⌝ }
+    ensures found { λ r. ⌜ LookedUp (now (names .entry)) (lines (now (source .entry))) (end (now (source .entry))) (now (sightings .exit)) r ⌝ }
     ensures rest { λ _. ⌜ lines (now (source .exit)) ≡ [] ⌝ }
     ensures kept { λ _. ⌜ end (now (source .exit)) ≡ end (now (source .entry)) ⌝ }
 {
@@ -88,10 +85,7 @@ pub fn look_up<S: LineSource>(
     names: &[String],
     sightings: &mut [Sighting],
 ) -> Reading
-    ensures says { λ _. ⌜ ((k : ℕ) → k < length (now (names .entry)) → k < length (now (sightings .entry)) → Says (lines (now (source .entry))) (name-at (now (names .entry)) k) (getD (now (sightings .exit)) k Unlisted)) ⌝ }
-    ensures spare { λ _. ⌜ ((k : ℕ) → length (now (names .entry)) ≤ k → getD (now (sightings .exit)) k Unlisted ≡ Unlisted) ⌝ }
-    ensures count { λ r. ⌜ r .lines ≡ min (length (lines (now (source .entry)))) (2 ^ 64 - 1) ⌝ }
-    ensures end { λ r. ⌜ r .end ≡ end (now (source .entry)) ⌝ }
+    ensures found { λ r. ⌜ LookedUp (now (names .entry)) (lines (now (source .entry))) (end (now (source .entry))) (now (sightings .exit)) r ⌝ }
     ensures rest { λ _. ⌜ lines (now (source .exit)) ≡ [] ⌝ }
     ensures kept { λ _. ⌜ end (now (source .exit)) ≡ end (now (source .entry)) ⌝ }
 {

@@ -1,12 +1,11 @@
-use mathlib.Core.Path.{_≡_, sym, ap, _∙_}
-use mathlib.Core.List.{[], map}
+use mathlib.Core.Path.{sym, ap, _∙_}
+use mathlib.Core.List.{map}
 use Prim.Native.Nat.{_≤_, _<_}
 use native.Mathlib.Omega.{arith}
 use lib.ListN.{length, getD}
 use Rattle.std.proofs.shelf.Lists.{length-map}
 use Rattle.std.specs.Of.String.{string-bytes}
 use Rattle.lookup.proofs.Noting.{name-read}
-use Rattle.lookup.specs.Noted.{name-at}
 use Rattle.lookup.specs.declared.sighting.Sighting.the-variants.{Unlisted}
 use Rattle.ksyms.specs.Answers.{line-of}
 use Rattle.ksyms.specs.Texts.{told-text}
