@@ -1,9 +1,8 @@
 // Times a scan of a kernel symbol list for names: `bench LIST NAME...`. What the list says goes to the standard output, the time to the standard error.
 ghost use mathlib.Core.Path.{_≡_};
-ghost use Prim.Native.Nat.{_-_, _^_, min};
-ghost use lib.ListN.{length};
 ghost use Rattle.std.specs.Vec.{made};
 ghost use Rattle.kallsyms.specs.Cut.{lines-from};
+ghost use Rattle.kallsyms.specs.Line.{count-of};
 use kallsyms::text::Text;
 use kallsyms::text::TextLineSource;
 use lookup::scan::look_up;
@@ -18,7 +17,7 @@ const RUNS: u32 = 15;
 
 // How long one scan takes, and how many lines it read.
 fn timed(rt: &LibcRuntime, bytes: &[u8], names: &[String]) -> io::Result<(Duration, u64)>
-    ensures { λ r. ⌜ made r (λ t. t .1 ≡ min (length (lines-from 1 (now (bytes .entry)))) (2 ^ 64 - 1)) ⌝ }
+    ensures { λ r. ⌜ made r (λ t. t .1 ≡ count-of (lines-from 1 (now (bytes .entry)))) ⌝ }
 {
     let mut sightings = vec![in rt.alloc(); Sighting::Unlisted; names.len()]?;
     let start = Instant::now(rt)?;
@@ -28,7 +27,7 @@ fn timed(rt: &LibcRuntime, bytes: &[u8], names: &[String]) -> io::Result<(Durati
 
 // The shortest of several scans, and how many lines each read.
 fn best(rt: &LibcRuntime, bytes: &[u8], names: &[String]) -> io::Result<(Duration, u64)>
-    ensures { λ r. ⌜ made r (λ t. t .1 ≡ min (length (lines-from 1 (now (bytes .entry)))) (2 ^ 64 - 1)) ⌝ }
+    ensures { λ r. ⌜ made r (λ t. t .1 ≡ count-of (lines-from 1 (now (bytes .entry)))) ⌝ }
 {
     let (mut shortest, mut lines) = timed(rt, bytes, names)?;
     for _ in 1..RUNS {

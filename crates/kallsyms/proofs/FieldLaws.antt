@@ -6,12 +6,14 @@ use Prim.Native.Nat.{ℕ, zero, suc, _+_, _-_, _≤_, _<_}
 use native.Mathlib.Omega.{arith}
 use native.Mathlib.Nat.{add-zero, sub-zero}
 use lib.ListN.{length, getD, take, drop, length-append}
+use Rattle.std.proofs.shelf.Elements.{all-getD}
 use Rattle.std.proofs.shelf.Tests.{not-true, not-false, both-ways, cond-true, cond-both}
-use Rattle.std.proofs.shelf.Lists.{append-nil, append-assoc, getD-append-left, getD-append-add, take-at, drop-at, drop-drop}
+use Rattle.std.proofs.shelf.Lists.{append-nil, append-assoc, getD-append-left, getD-append-add, take-at, drop-at}
 use Rattle.kallsyms.specs.Fields.{Part, separates, goes-on, extend, fields, field}
 use Rattle.kallsyms.specs.Splits.{Gap, Unbroken, Bounded, Splits}
 use Rattle.kallsyms.specs.Laws.{LinesHaveOneListOfFields, FieldsAreParts, WordsAreFields}
 use Rattle.kallsyms.proofs.Fielded.{take-front}
+use Rattle.kallsyms.proofs.Pieced.{drop-past}
 
 -- a gap is in no field
 gap-skip : (n : ℕ) (g l : List ℕ) → Gap g → fields n (g ++ l) ≡ fields (n + length g) l
@@ -24,11 +26,6 @@ gap-none : (n : ℕ) (l : List ℕ) → Gap l → fields n l ≡ []
 gap-none n l h = ap (fields n) (sym (append-nil l)) ∙ gap-skip n l [] h
 
 -- a word at the front is the first field
-unbroken-at : (w : List ℕ) → Unbroken w → (j : ℕ) → j < length w → separates (getD w j 0) ≡ false
-unbroken-at [] u j lt = absurd (omega arith)
-unbroken-at (b ∷ w) u zero lt = u .0
-unbroken-at (b ∷ w) u (suc j) lt = unbroken-at w (u .1) j (omega arith)
-
 bounded-at : (l : List ℕ) → Bounded l → 0 < length l → separates (getD l 0 0) ≡ true
 bounded-at [] b lt = absurd (omega arith)
 bounded-at (x ∷ l) b lt = b
@@ -39,7 +36,7 @@ first-word n w l u h b =
     let at = getD-append-add w l 0 0 in
     let z = add-zero (length w) in
     take-front (w ++ l) n (length w) h (omega arith)
-    (λ j lt. ap separates (getD-append-left w l 0 j lt) ∙ unbroken-at w u j lt)
+    (λ j lt. ap separates (getD-append-left w l 0 j lt) ∙ all-getD (λ b. separates b ≡ false) w j 0 lt u)
     (λ lt. ap (λ i. separates (getD (w ++ l) i 0)) (sym z) ∙ ap separates at ∙ bounded-at l b (omega arith))
     ∙ ap (λ x. record { start = n; bytes = x } ∷ fields (n + length w) (drop (length w) (w ++ l))) (take-at w l (length w) refl)
     ∙ ap (λ x. record { start = n; bytes = w } ∷ fields (n + length w) x) (drop-at w l (length w) refl)
@@ -99,9 +96,6 @@ pub one-list : LinesHaveOneListOfFields
 one-list l = (splits 0 l, λ ps h. alone 0 ps l h)
 
 -- a part that a line splits into stands in it
-drop-past : (xs ys : List ℕ) (k : ℕ) → drop (length xs + k) (xs ++ ys) ≡ drop k ys
-drop-past xs ys k = sym (drop-drop k (length xs) (xs ++ ys)) ∙ ap (drop k) (drop-at xs ys (length xs) refl)
-
 part-at : (n : ℕ) (ps : List Part) (l : List ℕ) (k : ℕ) (d : Part) → Splits n ps l → k < length ps → (n ≤ getD ps k d .start) × (take (length (getD ps k d .bytes)) (drop (getD ps k d .start - n) l) ≡ getD ps k d .bytes) × (0 < length (getD ps k d .bytes)) × Unbroken (getD ps k d .bytes)
 part-at n [] l k d h lt = absurd (omega arith)
 part-at n (p ∷ ps) l zero d h lt =

@@ -3,22 +3,26 @@ use mathlib.Core.Path.{_≡_, refl, sym, ap, _∙_, subst}
 use mathlib.Core.Bool.{true, false, _&&_}
 use mathlib.Core.Logic.{inl, inr, ⊎-elim}
 use mathlib.Core.List.{List, [], _∷_, _++_}
-use Prim.Native.Nat.{ℕ, zero, suc, _+_, _-_, _^_, _≤_, _<_, min}
+use Prim.Native.Nat.{ℕ, suc, _+_, _-_, _^_, _≤_, min}
 use native.Mathlib.Omega.{arith}
+use native.Mathlib.Numerals.{add-one}
 use lib.Dec.{eqb, ltb}
-use lib.ListN.{length, getD, drop, length-append}
+use lib.ListN.{length, drop, length-append}
+use Rattle.std.specs.shelf.Lists.{All}
+use Rattle.std.proofs.shelf.Elements.{all-getD, all-push, all-weaker}
 use Rattle.std.proofs.shelf.Tests.{eq-eqb, ne-eqb, eqb-true, eqb-false, ltb-true, ltb-false, lt-ltb, le-ltb, and-parts, and-cases, and-from, both-ways, cases-bool, cond-true, cond-false, cond-both}
 use Rattle.std.proofs.shelf.Lists.{append-nil, append-assoc, getD-append-left, getD-at, take-at}
-use Rattle.kallsyms.specs.Line.{Plain, GoodLine, GoodLines}
-use Rattle.kallsyms.specs.Cut.{feeds, onto, pieces, plain, verdict, after, keep, first-end, kept, ended, lines-from, end-from}
+use Rattle.kallsyms.specs.Line.{Plain, GoodLine, GoodLines, number-after}
+use Rattle.kallsyms.specs.Cut.{feeds, onto, pieces, plain, verdict, keep, kept, ended, lines-from, end-from}
+use Rattle.kallsyms.specs.Joins.{joined-end}
 use Rattle.kallsyms.specs.Goodness.{plain-Plain}
 use Rattle.kallsyms.specs.Means.{NoFeed, NoReturn, Ends, Consists, Has, Means, OneMeaning}
-use Rattle.kallsyms.specs.Laws.{Each, written, WrittenLinesAreRead, ReturnedLinesAreRead}
+use Rattle.kallsyms.specs.Laws.{written, WrittenLinesAreRead, ReturnedLinesAreRead}
 use Rattle.kallsyms.specs.declared.ends.Fault.{Fault}
 use Rattle.kallsyms.specs.declared.ends.Fault.the-variants.{LineTooLong, ByteTooLarge}
 use Rattle.kallsyms.specs.declared.ends.End.{End}
 use Rattle.kallsyms.specs.declared.ends.End.the-variants.{Clean, Broken}
-use Rattle.kallsyms.proofs.Pieced.{trim, first-piece, last-piece}
+use Rattle.kallsyms.proofs.Pieced.{trim, first-piece, last-piece, drop-past}
 
 -- a byte 13 at the end is what `trim` takes away
 trim-kept : (p : List ℕ) → NoReturn p → trim p ≡ p
@@ -31,36 +35,22 @@ trim-taken [] = refl
 trim-taken (b ∷ []) = refl
 trim-taken (b ∷ c ∷ p) = ap (λ l. b ∷ l) (trim-taken (c ∷ p))
 
--- no byte of a piece is 10
-no-feed-at : (p : List ℕ) → NoFeed p → (k : ℕ) → k < length p → getD p k 0 ≡ 10 → ⊥
-no-feed-at [] f k h e = absurd (omega arith)
-no-feed-at (b ∷ p) f zero h e = f .0 e
-no-feed-at (b ∷ p) f (suc k) h e = no-feed-at p (f .1) k (omega arith) e
-
-no-feed-return : (p : List ℕ) → NoFeed p → NoFeed (p ++ 13 ∷ [])
-no-feed-return [] f = (λ e. omega arith, tt)
-no-feed-return (b ∷ p) f = (f .0, no-feed-return p (f .1))
-
 -- a piece and its byte 10 come before the pieces of the rest
-drop-past : (p : List ℕ) (b : ℕ) (bs : List ℕ) → drop (suc (length p)) (p ++ b ∷ bs) ≡ bs
-drop-past [] b bs = refl
-drop-past (x ∷ p) b bs = drop-past p b bs
-
 pieces-fed : (p bs : List ℕ) → NoFeed p → pieces (p ++ 10 ∷ bs) ≡ trim p ∷ pieces bs
 pieces-fed p bs f =
     let len = length-append p (10 ∷ bs) in
     first-piece (p ++ 10 ∷ bs) (length p) (omega arith)
-    (λ k lt e. no-feed-at p f k lt (sym (getD-append-left p (10 ∷ bs) 0 k lt) ∙ e))
+    (λ k lt e. all-getD (λ b. b ≡ 10 → ⊥) p k 0 lt f (sym (getD-append-left p (10 ∷ bs) 0 k lt) ∙ e))
     (getD-at p 10 bs 0 (length p) refl)
     ∙ ap (λ l. trim l ∷ pieces (drop (suc (length p)) (p ++ 10 ∷ bs))) (take-at p (10 ∷ bs) (length p) refl)
-    ∙ ap (λ l. trim p ∷ pieces l) (drop-past p 10 bs)
+    ∙ ap (λ l. trim p ∷ pieces l) (ap (λ n. drop n (p ++ 10 ∷ bs)) (sym (add-one (length p))) ∙ drop-past p (10 ∷ bs) 1)
 
 pieces-ended : (p bs rest : List ℕ) → NoFeed p → Ends p bs rest → pieces bs ≡ p ∷ pieces rest
 pieces-ended p bs rest f =
     ⊎-elim
     (λ x. ap pieces (x .0) ∙ pieces-fed p rest f ∙ ap (λ l. l ∷ pieces rest) (trim-kept p (x .1)))
     (λ e. ap pieces (e ∙ sym (append-assoc p (13 ∷ []) (10 ∷ rest)))
-    ∙ pieces-fed (p ++ 13 ∷ []) rest (no-feed-return p f)
+    ∙ pieces-fed (p ++ 13 ∷ []) rest (all-push (λ b. b ≡ 10 → ⊥) p 13 f (λ e. omega arith))
     ∙ ap (λ l. l ∷ pieces rest) (trim-taken p))
 
 -- so a text consists of its pieces at most
@@ -68,7 +58,7 @@ consists-pieces : (ps : List (List ℕ)) (bs : List ℕ) → Consists ps bs → 
 consists-pieces [] bs e = ap pieces e
 consists-pieces (p ∷ ps) bs c =
     ⊎-elim
-    (λ x. ap pieces (x .0) ∙ last-piece p (x .1) (no-feed-at p (c .0)) ∙ ap (λ l. p ∷ l) (sym (x .2)))
+    (λ x. ap pieces (x .0) ∙ last-piece p (x .1) (λ k lt. all-getD (λ b. b ≡ 10 → ⊥) p k 0 lt (c .0)) ∙ ap (λ l. p ∷ l) (sym (x .2)))
     (λ x. pieces-ended p bs (x .0) (c .0) (x .1) ∙ ap (λ l. p ∷ l) (consists-pieces ps (x .0) (x .2)))
     (c .1)
 
@@ -142,30 +132,30 @@ bad-verdict (ByteTooLarge m) n p h =
 -- the number of the line after lines of which the first has number n
 abbrev count : ℕ → List (List ℕ) → ℕ
 count n [] = n
-count n (l ∷ ls) = count (after n) ls
+count n (l ∷ ls) = count (number-after n) ls
 
 count-is : (n : ℕ) (ls : List (List ℕ)) → n ≤ 2 ^ 64 - 1 → count n ls ≡ min (length ls + n) (2 ^ 64 - 1)
 count-is n [] h = omega arith
-count-is n (l ∷ ls) h = let e = count-is (after n) ls (omega arith) in omega arith
+count-is n (l ∷ ls) h = let e = count-is (number-after n) ls (omega arith) in omega arith
 
 -- pieces, of which the first has number n, are lines up to an end
 abbrev Split : ℕ → List (List ℕ) → List (List ℕ) → End → Type 0
 Split n ps ls Clean = (ps ≡ ls) × GoodLines ls
 Split n ps ls (Broken f) = (p : List ℕ) × (qs : List (List ℕ)) × (ps ≡ ls ++ p ∷ qs) × GoodLines ls × Has f (count n ls) p
 
-split-more : (n : ℕ) (p : List ℕ) (ps ls : List (List ℕ)) (e : End) → GoodLine p → Split (after n) ps ls e → Split n (p ∷ ps) (p ∷ ls) e
+split-more : (n : ℕ) (p : List ℕ) (ps ls : List (List ℕ)) (e : End) → GoodLine p → Split (number-after n) ps ls e → Split n (p ∷ ps) (p ∷ ls) e
 split-more n p ps ls Clean g s = (ap (λ l. p ∷ l) (s .0), (g, s .1))
 split-more n p ps ls (Broken f) g s = (s .0, s .1, ap (λ l. p ∷ l) (s .2), (g, s .3), s .4)
 
 split-at : (n : ℕ) (ps : List (List ℕ)) → Split n ps (kept n ps) (ended n ps)
 split-at n [] = (refl, tt)
 split-at n (p ∷ ps) =
-    let ls = kept (after n) ps in
-    let e = ended (after n) ps in
-    cond-both (ltb 1024 (length p)) _ _ (λ v. Split n (p ∷ ps) (keep v p ls) (first-end v e))
+    let ls = kept (number-after n) ps in
+    let e = ended (number-after n) ps in
+    cond-both (ltb 1024 (length p)) _ _ (λ v. Split n (p ∷ ps) (keep v p ls) (joined-end v e))
     (λ long. (p, ps, refl, tt, (refl, ltb-true 1024 (length p) long)))
-    (λ short. cond-both (plain p) _ _ (λ v. Split n (p ∷ ps) (keep v p ls) (first-end v e))
-    (λ good. split-more n p ps ls e (ltb-false 1024 (length p) short, plain-Plain p good) (split-at (after n) ps))
+    (λ short. cond-both (plain p) _ _ (λ v. Split n (p ∷ ps) (keep v p ls) (joined-end v e))
+    (λ good. split-more n p ps ls e (ltb-false 1024 (length p) short, plain-Plain p good) (split-at (number-after n) ps))
     (λ bad. (p, ps, refl, tt, (refl, ltb-false 1024 (length p) short, λ h. both-ways _ bad (Plain-plain p h)))))
 
 -- lines at the front stay, and so no other lines and end will do
@@ -173,9 +163,9 @@ good-front : (n : ℕ) (ls ps : List (List ℕ)) → GoodLines ls → (kept n (l
 good-front n [] ps g = (refl, refl)
 good-front n (l ∷ ls) ps g =
     let v = good-verdict n l (g .0) in
-    let rest = good-front (after n) ls ps (g .1) in (
-      ap (λ x. keep x l (kept (after n) (ls ++ ps))) v ∙ ap (λ x. l ∷ x) (rest .0),
-      ap (λ x. first-end x (ended (after n) (ls ++ ps))) v ∙ rest .1,
+    let rest = good-front (number-after n) ls ps (g .1) in (
+      ap (λ x. keep x l (kept (number-after n) (ls ++ ps))) v ∙ ap (λ x. l ∷ x) (rest .0),
+      ap (λ x. joined-end x (ended (number-after n) (ls ++ ps))) v ∙ rest .1,
     )
 
 split-alone : (n : ℕ) (ps ls : List (List ℕ)) (e : End) → Split n ps ls e → (ls ≡ kept n ps) × (e ≡ ended n ps)
@@ -190,8 +180,8 @@ split-alone n ps ls (Broken f) s =
     let m = count n ls in
     let front = good-front n ls (p ∷ qs) (s .3) in
     let v = bad-verdict f m p (s .4) in (
-      sym (ap (kept n) (s .2) ∙ front .0 ∙ ap (λ x. ls ++ keep x p (kept (after m) qs)) v ∙ append-nil ls),
-      sym (ap (ended n) (s .2) ∙ front .1 ∙ ap (λ x. first-end x (ended (after m) qs)) v),
+      sym (ap (kept n) (s .2) ∙ front .0 ∙ ap (λ x. ls ++ keep x p (kept (number-after m) qs)) v ∙ append-nil ls),
+      sym (ap (ended n) (s .2) ∙ front .1 ∙ ap (λ x. joined-end x (ended (number-after m) qs)) v),
     )
 
 -- a text means lines and an end where its pieces are split so
@@ -216,24 +206,16 @@ one-meaning bs =
 read-back : (ls : List (List ℕ)) (bs : List ℕ) → Consists ls bs → GoodLines ls → (lines-from 1 bs ≡ ls) × (end-from 1 bs ≡ Clean)
 read-back ls bs c g = let only = one-meaning bs .alone ls Clean (c, g) in (sym (only .0), sym (only .1))
 
-fed-good : (ls : List (List ℕ)) → Each (λ l. GoodLine l × NoFeed l × NoReturn l) ls → GoodLines ls
-fed-good [] h = tt
-fed-good (l ∷ ls) h = (h .0 .0, fed-good ls (h .1))
-
-fed-consist : (ls : List (List ℕ)) → Each (λ l. GoodLine l × NoFeed l × NoReturn l) ls → Consists ls (written (10 ∷ []) ls)
+fed-consist : (ls : List (List ℕ)) → All (λ l. GoodLine l × NoFeed l × NoReturn l) ls → Consists ls (written (10 ∷ []) ls)
 fed-consist [] h = refl
 fed-consist (l ∷ ls) h = (h .0 .1, inr (written (10 ∷ []) ls, inl (refl, h .0 .2), fed-consist ls (h .1)))
 
 pub written-read : WrittenLinesAreRead
-written-read ls h = read-back ls (written (10 ∷ []) ls) (fed-consist ls h) (fed-good ls h)
+written-read ls h = read-back ls (written (10 ∷ []) ls) (fed-consist ls h) (all-weaker (λ l. GoodLine l × NoFeed l × NoReturn l) GoodLine (λ l g. g .0) ls h)
 
-returned-good : (ls : List (List ℕ)) → Each (λ l. GoodLine l × NoFeed l) ls → GoodLines ls
-returned-good [] h = tt
-returned-good (l ∷ ls) h = (h .0 .0, returned-good ls (h .1))
-
-returned-consist : (ls : List (List ℕ)) → Each (λ l. GoodLine l × NoFeed l) ls → Consists ls (written (13 ∷ 10 ∷ []) ls)
+returned-consist : (ls : List (List ℕ)) → All (λ l. GoodLine l × NoFeed l) ls → Consists ls (written (13 ∷ 10 ∷ []) ls)
 returned-consist [] h = refl
 returned-consist (l ∷ ls) h = (h .0 .1, inr (written (13 ∷ 10 ∷ []) ls, inr refl, returned-consist ls (h .1)))
 
 pub returned-read : ReturnedLinesAreRead
-returned-read ls h = read-back ls (written (13 ∷ 10 ∷ []) ls) (returned-consist ls h) (returned-good ls h)
+returned-read ls h = read-back ls (written (13 ∷ 10 ∷ []) ls) (returned-consist ls h) (all-weaker (λ l. GoodLine l × NoFeed l) GoodLine (λ l g. g .0) ls h)

@@ -10,7 +10,7 @@ use native.Mathlib.Nat.{sub-zero}
 use lib.Dec.{eqb, ltb}
 use lib.ListN.{length, getD, take, drop}
 use Rattle.std.proofs.shelf.Tests.{eq-eqb, ne-eqb, eqb-true, lt-ltb, ltb-true, and-left, and-right, and-from, and-parts, both-ways, cases-bool, cond-true, cond-false, cond-both}
-use Rattle.std.proofs.shelf.Lists.{drop-all, take-all, take-more, take-rest}
+use Rattle.std.proofs.shelf.Lists.{drop-at, drop-drop, drop-all, take-all, take-more, take-rest}
 use Rattle.kallsyms.specs.Cut.{plain, feeds, onto, pieces, lines-from, end-from}
 use Rattle.kallsyms.specs.Pieces.{returns, bare}
 use Rattle.kallsyms.specs.Steps.{Steps}
@@ -24,6 +24,10 @@ and-true false = refl
 and-assoc : (s t u : Bool) → (s && t) && u ≡ s && (t && u)
 and-assoc true t u = refl
 and-assoc false t u = refl
+
+-- what is left past a list at the front
+pub drop-past : (xs ys : List ℕ) (k : ℕ) → drop (length xs + k) (xs ++ ys) ≡ drop k ys
+drop-past xs ys k = sym (drop-drop k (length xs) (xs ++ ys)) ∙ ap (drop k) (drop-at xs ys (length xs) refl)
 
 -- without a byte 13 at the end, byte by byte
 abbrev pub trim : List ℕ → List ℕ

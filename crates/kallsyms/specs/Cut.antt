@@ -1,9 +1,11 @@
 -- The lines of a text, and its end. Assumes nothing.
 use mathlib.Core.Bool.{Bool, true, false, cond, _&&_}
 use mathlib.Core.List.{List, [], _∷_}
-use Prim.Native.Nat.{ℕ, _+_, _-_, _^_, min}
+use Prim.Native.Nat.{ℕ}
 use lib.Dec.{eqb, ltb}
 use lib.ListN.{length}
+use Rattle.kallsyms.specs.Line.{number-after}
+use Rattle.kallsyms.specs.Joins.{joined-end}
 use Rattle.kallsyms.specs.declared.ends.Fault.the-variants.{LineTooLong, ByteTooLarge}
 use Rattle.kallsyms.specs.declared.ends.End.{End}
 use Rattle.kallsyms.specs.declared.ends.End.the-variants.{Clean, Broken}
@@ -32,29 +34,20 @@ plain (b ∷ bs) = ltb b 128 && plain bs
 abbrev pub verdict : ℕ → List ℕ → End
 verdict n p = cond (ltb 1024 (length p)) (Broken (LineTooLong n)) (cond (plain p) Clean (Broken (ByteTooLarge n)))
 
--- the number of the line after this one, which stays at the greatest of 64 bits
-abbrev pub after : ℕ → ℕ
-after n = min (n + 1) (2 ^ 64 - 1)
-
 -- a piece before the lines after it, or no line where it has a fault
 abbrev pub keep : End → List ℕ → List (List ℕ) → List (List ℕ)
 keep Clean p ls = p ∷ ls
 keep (Broken f) p ls = []
 
--- the end after a piece, or its fault
-abbrev pub first-end : End → End → End
-first-end Clean e = e
-first-end (Broken f) e = Broken f
-
 -- the pieces before the first that has a fault
 abbrev pub kept : ℕ → List (List ℕ) → List (List ℕ)
 kept n [] = []
-kept n (p ∷ ps) = keep (verdict n p) p (kept (after n) ps)
+kept n (p ∷ ps) = keep (verdict n p) p (kept (number-after n) ps)
 
 -- the first fault, or clean
 abbrev pub ended : ℕ → List (List ℕ) → End
 ended n [] = Clean
-ended n (p ∷ ps) = first-end (verdict n p) (ended (after n) ps)
+ended n (p ∷ ps) = joined-end (verdict n p) (ended (number-after n) ps)
 
 -- the lines of a text whose first line has number n
 abbrev pub lines-from : ℕ → List ℕ → List (List ℕ)

@@ -1,23 +1,20 @@
 -- Why the lines of each kind of source are good. Assumes nothing.
 use mathlib.Core.Path.{_≡_}
 use mathlib.Core.Bool.{true}
-use mathlib.Core.List.{List, [], _∷_, _++_}
+use mathlib.Core.List.{List, [], _∷_}
 use Prim.Native.Nat.{ℕ}
 use lib.Dec.{ltb}
 use lib.ListN.{length}
+use Rattle.std.proofs.shelf.Elements.{all-append}
 use Rattle.std.proofs.shelf.Tests.{ltb-true, ltb-false, and-parts, cond-both}
-use Rattle.kallsyms.specs.Line.{Plain, GoodLines}
+use Rattle.kallsyms.specs.Line.{Plain, GoodLine, GoodLines, number-after}
 use Rattle.kallsyms.specs.Joins.{joined-lines}
-use Rattle.kallsyms.specs.Cut.{plain, verdict, keep, kept, after}
+use Rattle.kallsyms.specs.Cut.{plain, verdict, keep, kept}
 use Rattle.kallsyms.specs.declared.ends.End.{End}
 use Rattle.kallsyms.specs.declared.ends.End.the-variants.{Clean, Broken}
 
-good-append : (ls ms : List (List ℕ)) → GoodLines ls → GoodLines ms → GoodLines (ls ++ ms)
-good-append [] ms f g = g
-good-append (l ∷ ls) ms f g = (f .0, good-append ls ms (f .1) g)
-
 pub good-joined : (ls : List (List ℕ)) (e : End) (ms : List (List ℕ)) → GoodLines ls → GoodLines ms → GoodLines (joined-lines ls e ms)
-good-joined ls Clean ms f g = good-append ls ms f g
+good-joined ls Clean ms f g = all-append GoodLine ls ms f g
 good-joined ls (Broken x) ms f g = f
 
 pub plain-Plain : (p : List ℕ) → plain p ≡ true → Plain p
@@ -33,4 +30,4 @@ good-keep n p ls f =
 
 pub good-kept : (n : ℕ) (ps : List (List ℕ)) → GoodLines (kept n ps)
 good-kept n [] = tt
-good-kept n (p ∷ ps) = good-keep n p (kept (after n) ps) (good-kept (after n) ps)
+good-kept n (p ∷ ps) = good-keep n p (kept (number-after n) ps) (good-kept (number-after n) ps)

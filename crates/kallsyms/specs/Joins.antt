@@ -9,7 +9,7 @@ abbrev pub joined-lines : List (List ℕ) → End → List (List ℕ) → List (
 joined-lines ls Clean ms = ls ++ ms
 joined-lines ls (Broken f) ms = ls
 
--- the second's end if the first ends clean, else the first's
+-- the second end if the first is clean, else the first
 abbrev pub joined-end : End → End → End
 joined-end Clean e = e
 joined-end (Broken f) e = Broken f

@@ -5,6 +5,7 @@ use mathlib.Core.List.{List, [], _∷_, _++_}
 use Prim.Native.Nat.{ℕ, _+_, _<_}
 use lib.Chars.{codes}
 use lib.ListN.{length, take, drop}
+use Rattle.std.specs.shelf.Lists.{All}
 use Rattle.std.specs.declared.option.Option.the-variants.{Some, None}
 use Rattle.kallsyms.specs.Line.{GoodLine}
 use Rattle.kallsyms.specs.Means.{NoFeed, NoReturn, OneMeaning}
@@ -18,11 +19,6 @@ use Rattle.kallsyms.specs.declared.ends.End.the-variants.{Clean}
 abbrev pub TextsHaveOneMeaning : Type 0
 TextsHaveOneMeaning = (bs : List ℕ) → OneMeaning bs (lines-from 1 bs) (end-from 1 bs)
 
--- what holds of each line
-abbrev pub Each : (List ℕ → Type 0) → List (List ℕ) → Type 0
-Each P [] = Unit {0}
-Each P (l ∷ ls) = P l × Each P ls
-
 -- each line and its terminator, in turn
 abbrev pub written : List ℕ → List (List ℕ) → List ℕ
 written t [] = []
@@ -31,13 +27,13 @@ written t (l ∷ ls) = l ++ (t ++ written t ls)
 -- a text made of lines with a byte 10 after each means exactly those lines, and ends clean, if no line has a byte 10 or a byte 13 at its end
 abbrev pub WrittenLinesAreRead : Type 0
 WrittenLinesAreRead =
-    (ls : List (List ℕ)) → Each (λ l. GoodLine l × NoFeed l × NoReturn l) ls
+    (ls : List (List ℕ)) → All (λ l. GoodLine l × NoFeed l × NoReturn l) ls
     → (lines-from 1 (written (10 ∷ []) ls) ≡ ls) × (end-from 1 (written (10 ∷ []) ls) ≡ Clean)
 
 -- and with bytes 13 and 10 after each, a line may have a byte 13 at its end too
 abbrev pub ReturnedLinesAreRead : Type 0
 ReturnedLinesAreRead =
-    (ls : List (List ℕ)) → Each (λ l. GoodLine l × NoFeed l) ls
+    (ls : List (List ℕ)) → All (λ l. GoodLine l × NoFeed l) ls
     → (lines-from 1 (written (13 ∷ 10 ∷ []) ls) ≡ ls) × (end-from 1 (written (13 ∷ 10 ∷ []) ls) ≡ Clean)
 
 -- every line splits into the fields that are found in it, and into no others

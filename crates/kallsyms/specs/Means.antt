@@ -2,9 +2,10 @@
 use mathlib.Core.Path.{_≡_}
 use mathlib.Core.Logic.{_⊎_}
 use mathlib.Core.List.{List, [], _∷_, _++_}
-use Prim.Native.Nat.{ℕ, _+_, _-_, _^_, _≤_, _<_, min}
+use Prim.Native.Nat.{ℕ, _≤_, _<_}
 use lib.ListN.{length}
-use Rattle.kallsyms.specs.Line.{Plain, GoodLines}
+use Rattle.std.specs.shelf.Lists.{All}
+use Rattle.kallsyms.specs.Line.{Plain, GoodLines, number-after}
 use Rattle.kallsyms.specs.declared.ends.Fault.{Fault}
 use Rattle.kallsyms.specs.declared.ends.Fault.the-variants.{LineTooLong, ByteTooLarge}
 use Rattle.kallsyms.specs.declared.ends.End.{End}
@@ -12,8 +13,7 @@ use Rattle.kallsyms.specs.declared.ends.End.the-variants.{Clean, Broken}
 
 -- no byte is 10
 abbrev pub NoFeed : List ℕ → Type 0
-NoFeed [] = Unit {0}
-NoFeed (b ∷ bs) = (b ≡ 10 → ⊥) × NoFeed bs
+NoFeed p = All (λ b. b ≡ 10 → ⊥) p
 
 -- the last byte is not 13
 abbrev pub NoReturn : List ℕ → Type 0
@@ -36,7 +36,7 @@ Has (ByteTooLarge m) n p = (m ≡ n) × (length p ≤ 1024) × (Plain p → ⊥)
 -- a text means these lines and this end: it consists of lines; or of lines, a piece that has the fault, and more pieces
 abbrev pub Means : List ℕ → List (List ℕ) → End → Type 0
 Means bs ls Clean = Consists ls bs × GoodLines ls
-Means bs ls (Broken f) = (p : List ℕ) × (ps : List (List ℕ)) × Consists (ls ++ p ∷ ps) bs × GoodLines ls × Has f (min (length ls + 1) (2 ^ 64 - 1)) p
+Means bs ls (Broken f) = (p : List ℕ) × (ps : List (List ℕ)) × Consists (ls ++ p ∷ ps) bs × GoodLines ls × Has f (number-after (length ls)) p
 
 -- a text means these lines and this end, and no others
 pub record OneMeaning (bs : List ℕ) (ls : List (List ℕ)) (e : End) : Type 0 where

@@ -4,17 +4,16 @@ use mathlib.Core.Bool.{true, false}
 use mathlib.Core.List.{List, [], _∷_, _++_}
 use Prim.Native.Nat.{ℕ, _+_, _<_}
 use lib.ListN.{length}
+use Rattle.std.specs.shelf.Lists.{All}
 use Rattle.kallsyms.specs.Fields.{Part, separates}
 
 -- each byte separates fields
 abbrev pub Gap : List ℕ → Type 0
-Gap [] = Unit {0}
-Gap (b ∷ bs) = (separates b ≡ true) × Gap bs
+Gap l = All (λ b. separates b ≡ true) l
 
 -- no byte separates fields
 abbrev pub Unbroken : List ℕ → Type 0
-Unbroken [] = Unit {0}
-Unbroken (b ∷ bs) = (separates b ≡ false) × Unbroken bs
+Unbroken l = All (λ b. separates b ≡ false) l
 
 -- nothing is left, or a separator comes first
 abbrev pub Bounded : List ℕ → Type 0

@@ -4,7 +4,7 @@ ghost use mathlib.Core.Bool.{not};
 ghost use mathlib.Core.List.{[]};
 ghost use Prim.Native.Nat.{ℕ, _+_, _≤_, _<_};
 ghost use lib.ListN.{length, getD, drop};
-ghost use Rattle.kallsyms.specs.Fields.{separates, Begins, fields as fields-from, field as field-of};
+ghost use Rattle.kallsyms.specs.Fields.{separates, Begins, fields as fields-from};
 ghost use Rattle.kallsyms.specs.Shown.{Shows};
 ghost use Rattle.std.specs.Options.{Cases as BySome};
 
@@ -84,24 +84,21 @@ impl<'a> Fields<'a> {
 
     /// The first field of the line.
     pub fn address(&self) -> Field<'a>
-        ensures start { λ r. ⌜ (Shows (now (self .entry)) → r .start ≡ field-of 0 (now (now (self .entry) .line)) .start) ⌝ }
-        ensures bytes { λ r. ⌜ (Shows (now (self .entry)) → now (r .bytes) ≡ field-of 0 (now (now (self .entry) .line)) .bytes) ⌝ }
+        ensures { λ r. ⌜ r ≡ now (self .entry) .address ⌝ }
     {
         self.address
     }
 
     /// The second field of the line.
     pub fn letter(&self) -> Field<'a>
-        ensures start { λ r. ⌜ (Shows (now (self .entry)) → r .start ≡ field-of 1 (now (now (self .entry) .line)) .start) ⌝ }
-        ensures bytes { λ r. ⌜ (Shows (now (self .entry)) → now (r .bytes) ≡ field-of 1 (now (now (self .entry) .line)) .bytes) ⌝ }
+        ensures { λ r. ⌜ r ≡ now (self .entry) .letter ⌝ }
     {
         self.letter
     }
 
     /// The third field of the line.
     pub fn name(&self) -> Field<'a>
-        ensures start { λ r. ⌜ (Shows (now (self .entry)) → r .start ≡ field-of 2 (now (now (self .entry) .line)) .start) ⌝ }
-        ensures bytes { λ r. ⌜ (Shows (now (self .entry)) → now (r .bytes) ≡ field-of 2 (now (now (self .entry) .line)) .bytes) ⌝ }
+        ensures { λ r. ⌜ r ≡ now (self .entry) .name ⌝ }
     {
         self.name
     }

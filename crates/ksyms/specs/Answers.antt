@@ -1,11 +1,12 @@
 -- What the tool writes for a list and names. Assumes nothing.
 use mathlib.Core.Path.{_≡_}
 use mathlib.Core.List.{List, [], _∷_, _++_, map}
-use Prim.Native.Nat.{ℕ, _-_, _^_, _<_, min}
+use Prim.Native.Nat.{ℕ, _<_}
 use lib.ListN.{length, getD}
 use Rattle.std.specs.Of.String.{string-bytes}
 use Rattle.std.specs.declared.string.String.{String}
 use Rattle.std.specs.declared.alloc.Global.{Global}
+use Rattle.kallsyms.specs.Line.{count-of}
 use Rattle.kallsyms.specs.Cut.{lines-from, end-from}
 use Rattle.kallsyms.specs.declared.ends.End.{End}
 use Rattle.kallsyms.specs.declared.ends.End.the-variants.{Clean, Broken}
@@ -40,4 +41,4 @@ pub record Answers (bytes : List ℕ) (names : List (String Global)) (text : Lis
   pub sightings : List Sighting
   pub whole : length sightings ≡ length names
   pub says : (k : ℕ) → k < length names → Says (lines-from 1 bytes) (name-at names k) (getD sightings k Unlisted)
-  pub written : text ≡ answer-text names sightings (min (length (lines-from 1 bytes)) (2 ^ 64 - 1)) (end-from 1 bytes)
+  pub written : text ≡ answer-text names sightings (count-of (lines-from 1 bytes)) (end-from 1 bytes)

@@ -7,7 +7,8 @@ use native.Mathlib.Omega.{arith}
 use Rattle.std.proofs.shelf.Tests.{cases-order}
 use Rattle.std.specs.declared.option.Option.{Option}
 use Rattle.std.specs.declared.option.Option.the-variants.{Some, None}
-use Rattle.lookup.specs.Says.{Gives, Before, ZeroOr, number, SaysUnlisted, SaysOnlyZero, SaysAt, SaysTwo, SaysUnreadable, Says}
+use Rattle.kallsyms.specs.Line.{number-after}
+use Rattle.lookup.specs.Says.{Gives, Before, ZeroOr, SaysUnlisted, SaysOnlyZero, SaysAt, SaysTwo, SaysUnreadable, Says}
 use Rattle.lookup.specs.declared.sighting.Sighting.{Sighting}
 use Rattle.lookup.specs.declared.sighting.Sighting.the-variants.{Unlisted, OnlyZero, At, TwoAddresses, Unreadable}
 
@@ -29,8 +30,8 @@ module _ (ls : List (List ℕ)) (name : List ℕ) where
   same-place : (k j : ℕ) → (k < j → ⊥) → (j < k → ⊥) → k ≡ j
   same-place k j f g = ⊎-elim (λ e. e) (⊎-elim (λ lt. absurd (f lt)) (λ lt. absurd (g lt))) (cases-order k j)
 
-  same-number : (k j n m : ℕ) → k ≡ j → n ≡ number k → m ≡ number j → n ≡ m
-  same-number k j n m e f g = f ∙ ap number e ∙ sym g
+  same-number : (k j n m : ℕ) → k ≡ j → n ≡ number-after k → m ≡ number-after j → n ≡ m
+  same-number k j n m e f g = f ∙ ap number-after e ∙ sym g
 
   -- one line gives one address
   same-address : (k j : ℕ) (a b : Option ℕ) → k ≡ j → Gives ls name k a → Gives ls name j b → a ≡ b

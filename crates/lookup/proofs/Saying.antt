@@ -3,7 +3,7 @@ use mathlib.Core.Path.{_≡_, refl, sym, ap, subst, _∙_}
 use mathlib.Core.Bool.{true, false}
 use mathlib.Core.Logic.{inl, inr, ⊎-elim}
 use mathlib.Core.List.{List, [], _∷_, _++_}
-use Prim.Native.Nat.{ℕ, _+_, _-_, _^_, _≤_, _<_, min}
+use Prim.Native.Nat.{ℕ, _+_, _-_, _≤_, _<_}
 use native.Mathlib.Omega.{arith}
 use lib.Dec.{eqb, leb}
 use lib.ListN.{length, length-append}
@@ -17,7 +17,8 @@ use Rattle.kallsyms.specs.Fields.{fields, field}
 use Rattle.kallsyms.specs.Address.{address}
 use Rattle.lookup.specs.After.{after}
 use Rattle.lookup.specs.Noted.{lists, noted}
-use Rattle.lookup.specs.Says.{Lists, Gives, Before, ZeroOr, number, Says}
+use Rattle.kallsyms.specs.Line.{number-after, count-of}
+use Rattle.lookup.specs.Says.{Lists, Gives, Before, ZeroOr, Says}
 use Rattle.lookup.specs.declared.sighting.Sighting.{Sighting}
 use Rattle.lookup.specs.declared.sighting.Sighting.the-variants.{Unlisted, OnlyZero, At, TwoAddresses, Unreadable}
 
@@ -96,11 +97,11 @@ module _ (xs : List (List ℕ)) (l name : List ℕ) where
 
   module _ (h : Lists name l) where
     -- the line's address does not read
-    unreadable : (x : ℕ) → address (field 0 l .bytes) ≡ None → Before xs name (length xs) (ZeroOr x) → Says (xs ++ l ∷ []) name (Unreadable (number (length xs)))
+    unreadable : (x : ℕ) → address (field 0 l .bytes) ≡ None → Before xs name (length xs) (ZeroOr x) → Says (xs ++ l ∷ []) name (Unreadable (number-after (length xs)))
     unreadable x e y = record { at = length xs; numbered = refl; gives = gives-last None h e; one = x; before = before-on (length xs) (ZeroOr x) (omega arith) y }
 
     -- the line is the first to give an address that is not zero
-    nonzero-first : (a : ℕ) → address (field 0 l .bytes) ≡ Some a → 0 < a → Before xs name (length xs) (λ o. o ≡ Some 0) → Says (xs ++ l ∷ []) name (At (number (length xs)) a)
+    nonzero-first : (a : ℕ) → address (field 0 l .bytes) ≡ Some a → 0 < a → Before xs name (length xs) (λ o. o ≡ Some 0) → Says (xs ++ l ∷ []) name (At (number-after (length xs)) a)
     nonzero-first a e pos y =
         record {
           at = length xs;
@@ -111,7 +112,8 @@ module _ (xs : List (List ℕ)) (l name : List ℕ) where
           all = before-more (ZeroOr a) (λ j o lt g. inl (y j o lt g)) (λ _. inr e);
         }
 
-    more : (o : Option ℕ) → address (field 0 l .bytes) ≡ o → (s : Sighting) → Says xs name s → Says (xs ++ l ∷ []) name (after (number (length xs)) o s)
+    -- one line more that lists the name
+    pub more : (o : Option ℕ) → address (field 0 l .bytes) ≡ o → (s : Sighting) → Says xs name s → Says (xs ++ l ∷ []) name (after (number-after (length xs)) o s)
     more None e Unlisted y = unreadable 0 e (λ j o lt g. absurd (y j o lt g))
     more None e (OnlyZero n) y = unreadable 0 e (λ j o lt g. inl (y .all j o lt g))
     more None e (At n x) y = unreadable x e (y .all)
@@ -167,7 +169,7 @@ module _ (xs : List (List ℕ)) (l name : List ℕ) where
       both-ways _ f (and-from (leb 3 (length (fields 0 l))) (sameBytes (field 2 l .bytes) name) (le-leb 3 _ (h .0)) (sameBytes-decides (field 2 l .bytes) name .1 (h .1)))
 
   -- what is noted of one line more is what the lines then say
-  pub noted-says : (s : Sighting) → Says xs name s → Says (xs ++ l ∷ []) name (noted (number (length xs)) l name s)
+  pub noted-says : (s : Sighting) → Says xs name s → Says (xs ++ l ∷ []) name (noted (number-after (length xs)) l name s)
   noted-says s y =
       cond-both (lists name l) _ _ (Says (xs ++ l ∷ []) name)
       (λ t. more (listed t) (address (field 0 l .bytes)) refl s y)
@@ -177,14 +179,14 @@ module _ (xs : List (List ℕ)) (l name : List ℕ) where
 pub read-more : (xs ls ls′ whole : List (List ℕ)) (l : List ℕ) → xs ++ ls ≡ whole → ls ≡ l ∷ ls′ → (xs ++ l ∷ []) ++ ls′ ≡ whole
 read-more xs ls ls′ whole l e f = append-assoc xs (l ∷ []) ls′ ∙ ap (λ r. xs ++ r) (sym f) ∙ e
 
-pub count-more : (xs : List (List ℕ)) (l : List ℕ) (n m : ℕ) → n ≡ min (length xs) (2 ^ 64 - 1) → m ≡ min (n + 1) (2 ^ 64 - 1) → m ≡ min (length (xs ++ l ∷ [])) (2 ^ 64 - 1)
+pub count-more : (xs : List (List ℕ)) (l : List ℕ) (n m : ℕ) → n ≡ count-of xs → m ≡ number-after n → m ≡ count-of (xs ++ l ∷ [])
 count-more xs l n m e f = let len = length-append xs (l ∷ []) in omega arith
 
-pub count-number : (xs : List (List ℕ)) (n m : ℕ) → n ≡ min (length xs) (2 ^ 64 - 1) → m ≡ min (n + 1) (2 ^ 64 - 1) → m ≡ number (length xs)
+pub count-number : (xs : List (List ℕ)) (n m : ℕ) → n ≡ count-of xs → m ≡ number-after n → m ≡ number-after (length xs)
 count-number xs n m e f = omega arith
 
 -- what was noted of the line in the buffer is said by the lines with it
-pub line-says : (xs : List (List ℕ)) (l b name : List ℕ) (n : ℕ) (s t : Sighting) → b ≡ l → n ≡ number (length xs) → t ≡ noted n b name s → Says xs name s → Says (xs ++ l ∷ []) name t
+pub line-says : (xs : List (List ℕ)) (l b name : List ℕ) (n : ℕ) (s t : Sighting) → b ≡ l → n ≡ number-after (length xs) → t ≡ noted n b name s → Says xs name s → Says (xs ++ l ∷ []) name t
 line-says xs l b name n s t e f g y =
-    let same : noted (number (length xs)) l name s ≡ t = sym (g ∙ ap (λ m. noted m b name s) f ∙ ap (λ r. noted (number (length xs)) r name s) e) in
+    let same : noted (number-after (length xs)) l name s ≡ t = sym (g ∙ ap (λ m. noted m b name s) f ∙ ap (λ r. noted (number-after (length xs)) r name s) e) in
     subst (Says (xs ++ l ∷ []) name) same (noted-says xs l name s y)

@@ -2,10 +2,11 @@
 use mathlib.Core.Path.{_≡_}
 use mathlib.Core.Logic.{_⊎_}
 use mathlib.Core.List.{List, []}
-use Prim.Native.Nat.{ℕ, _+_, _-_, _^_, _≤_, _<_, min}
+use Prim.Native.Nat.{ℕ, _≤_, _<_}
 use lib.ListN.{length, getD}
 use Rattle.std.specs.declared.option.Option.{Option}
 use Rattle.std.specs.declared.option.Option.the-variants.{Some, None}
+use Rattle.kallsyms.specs.Line.{number-after}
 use Rattle.kallsyms.specs.Fields.{fields, field}
 use Rattle.kallsyms.specs.Address.{address}
 use Rattle.lookup.specs.declared.sighting.Sighting.{Sighting}
@@ -27,10 +28,6 @@ Before ls name k P = (j : ℕ) (a : Option ℕ) → j < k → Gives ls name j a 
 abbrev pub ZeroOr : ℕ → Option ℕ → Type 0
 ZeroOr x a = (a ≡ Some 0) ⊎ (a ≡ Some x)
 
--- the number of the line at an index, from 1, which stays at the greatest of 64 bits
-abbrev pub number : ℕ → ℕ
-number k = min (k + 1) (2 ^ 64 - 1)
-
 -- no line lists the name
 abbrev pub SaysUnlisted : List (List ℕ) → List ℕ → Type 0
 SaysUnlisted ls name = Before ls name (length ls) (λ _. ⊥)
@@ -38,7 +35,7 @@ SaysUnlisted ls name = Before ls name (length ls) (λ _. ⊥)
 -- every line that lists the name gives zero, and line n is the first of them
 pub record SaysOnlyZero (ls : List (List ℕ)) (name : List ℕ) (n : ℕ) : Type 0 where
   pub at : ℕ
-  pub numbered : n ≡ number at
+  pub numbered : n ≡ number-after at
   pub gives : Gives ls name at (Some 0)
   pub first : Before ls name at (λ _. ⊥)
   pub all : Before ls name (length ls) (λ a. a ≡ Some 0)
@@ -46,7 +43,7 @@ pub record SaysOnlyZero (ls : List (List ℕ)) (name : List ℕ) (n : ℕ) : Typ
 -- line n is the first to give an address that is not zero, and every line that lists the name gives zero or this address
 pub record SaysAt (ls : List (List ℕ)) (name : List ℕ) (n x : ℕ) : Type 0 where
   pub at : ℕ
-  pub numbered : n ≡ number at
+  pub numbered : n ≡ number-after at
   pub nonzero : 0 < x
   pub gives : Gives ls name at (Some x)
   pub first : Before ls name at (λ a. a ≡ Some 0)
@@ -55,12 +52,12 @@ pub record SaysAt (ls : List (List ℕ)) (name : List ℕ) (n x : ℕ) : Type 0 
 -- line n is the first to give an address that is not zero, and line m the first to give another; the lines before m read
 pub record SaysTwo (ls : List (List ℕ)) (name : List ℕ) (n x m y : ℕ) : Type 0 where
   pub at : ℕ
-  pub numbered : n ≡ number at
+  pub numbered : n ≡ number-after at
   pub nonzero : 0 < x
   pub gives : Gives ls name at (Some x)
   pub first : Before ls name at (λ a. a ≡ Some 0)
   pub other : ℕ
-  pub other-numbered : m ≡ number other
+  pub other-numbered : m ≡ number-after other
   pub other-nonzero : 0 < y
   pub other-gives : Gives ls name other (Some y)
   pub apart : x ≡ y → ⊥
@@ -69,7 +66,7 @@ pub record SaysTwo (ls : List (List ℕ)) (name : List ℕ) (n x m y : ℕ) : Ty
 -- line n is the first that lists the name with an address that does not read, and the lines before it give at most one that is not zero
 pub record SaysUnreadable (ls : List (List ℕ)) (name : List ℕ) (n : ℕ) : Type 0 where
   pub at : ℕ
-  pub numbered : n ≡ number at
+  pub numbered : n ≡ number-after at
   pub gives : Gives ls name at None
   pub one : ℕ
   pub before : Before ls name at (ZeroOr one)
