@@ -6,4 +6,4 @@ use Rattle.ksyms.proofs.request.Request.of.Needs as need
 
 pub returns : need.returns
 returns c =
-    (c .as-str .ensures .value ∙ sym (name-read (c .args .words .now) 1 (c .index-words-1 .result) (omega arith) (c .index-words-1 .is)), take-rest (c .args .words .now) 2)
+    (omega arith, c .as-str .ensures .value ∙ sym (name-read (c .args .words .now) 1 (c .index-words-1 .result) (omega arith) (c .index-words-1 .is)), take-rest (c .args .words .now) 2)
