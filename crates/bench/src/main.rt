@@ -1,4 +1,6 @@
 // Times a scan of a kernel symbol list for names: `bench LIST NAME...`. What the list says goes to the standard output, the time to the standard error.
+#![tactic(auto)]
+
 ghost use Rattle.std.specs.Prelude.{◌≡◌, IfOk};
 ghost use Rattle.kallsyms.specs.Cut.{lines_from};
 ghost use Rattle.kallsyms.specs.Line.{count_of};

@@ -1,4 +1,6 @@
 // A kernel symbol list: sources of its lines, the fields of a line, and the address in a field.
+#![tactic(auto)]
+
 pub mod address;
 pub mod digits;
 pub mod either;

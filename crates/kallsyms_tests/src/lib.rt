@@ -1,4 +1,6 @@
 // What crate `kallsyms` does on examples.
+#![tactic(auto)]
+
 #[cfg(test)]
 mod addresses;
 #[cfg(test)]

@@ -1,4 +1,6 @@
 // Says where names stand in a kernel symbol list.
+#![tactic(auto)]
+
 mod answer;
 mod hex;
 mod request;

@@ -1,4 +1,6 @@
 // The rows that the calls on a probe work on, what each call answers and makes, and the laws of every list of calls.
+#![tactic(auto)]
+
 pub mod btf;
 pub mod laws;
 pub mod refusal;
