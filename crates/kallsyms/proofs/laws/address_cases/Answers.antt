@@ -5,12 +5,12 @@ pub returns : goal.returns
 returns c =
     record {
       signed = refl;
-      either-case = refl;
+      either_case = refl;
       seventeen = refl;
       greatest = refl;
       too_large = refl;
-      sign-alone = refl;
-      two-signs = refl;
+      sign_alone = refl;
+      two_signs = refl;
       minus = refl;
       prefixed = refl;
       empty = refl;

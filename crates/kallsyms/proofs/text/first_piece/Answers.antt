@@ -3,7 +3,7 @@ use Rattle.kallsyms.proofs.text.first_piece.Goals as goal
 
 pub returns-then-at-bytes : goal.returns-then-at-bytes
 returns-then-at-bytes c =
-    let told = c.line-feed-at.ensures in
+    let told = c.line_feed-at.ensures in
     record {
       cut = piece_found _ _ _ c.if-at-bytes.true told.before (told.found c.if-at-bytes.true) c.stripped.ensures;
       plain = plain_found c.args.bytes.now _ _ _ told.plain c.stripped.ensures;
@@ -11,7 +11,7 @@ returns-then-at-bytes c =
 
 pub returns-else-at-bytes : goal.returns-else-at-bytes
 returns-else-at-bytes c =
-    let told = c.line-feed-at.ensures in
+    let told = c.line_feed-at.ensures in
     record {
       cut = piece_last _ _ c.requires c.if-at-bytes.false told.before;
       plain = plain_last _ _ _ c.if-at-bytes.false told.plain;
