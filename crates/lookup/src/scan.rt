@@ -54,9 +54,9 @@ fn note_lines<S: LineSource>(
     sightings: &mut [Sighting],
 ) -> Reading
     requires { (k : ℕ) → slice_index_or sightings.old k Unlisted ≡ Unlisted }
-    ensures found { LookedUp names.now (lines source.old) (end source.old) sightings.new result }
-    ensures rest { lines source.new ≡ [] }
-    ensures kept { end source.new ≡ end source.old }
+    ensures found { LookedUp names.now (S.lines source.old) (S.end source.old) sightings.new result }
+    ensures rest { S.lines source.new ≡ [] }
+    ensures kept { S.end source.new ≡ S.end source.old }
 {
     let mut buffer = [0u8; LINE_LEN];
     let mut count: u64 = 0;
@@ -77,9 +77,9 @@ pub fn look_up<S: LineSource>(
     names: &[String],
     sightings: &mut [Sighting],
 ) -> Reading
-    ensures found { LookedUp names.now (lines source.old) (end source.old) sightings.new result }
-    ensures rest { lines source.new ≡ [] }
-    ensures kept { end source.new ≡ end source.old }
+    ensures found { LookedUp names.now (S.lines source.old) (S.end source.old) sightings.new result }
+    ensures rest { S.lines source.new ≡ [] }
+    ensures kept { S.end source.new ≡ S.end source.old }
 {
     sightings.fill(Sighting::Unlisted);
     note_lines(source, names, sightings)

@@ -4,9 +4,9 @@ use Rattle.lookup.specs.declared.sighting.Sighting.TheVariants.{Unlisted}
 use Rattle.lookup.proofs.Noting.{noted_short, name_read, row_kept, row_same, row_more}
 use Rattle.lookup.proofs.scan.note_line.Goals as goal
 
-pub returns-in-default : goal.returns-in-default
-returns-in-default c k =
-    row_kept _ _ _ (noted_short c.args.line-number c.args.line.now (name_at c.args.names.now k) (get_or c.args.sightings.now k Unlisted) c.in-default.ensures)
+pub returns-in_default : goal.returns-in_default
+returns-in_default c k =
+    row_kept _ _ _ (noted_short c.args.line_number c.args.line.now (name_at c.args.names.now k) (get_or c.args.sightings.now k Unlisted) c.in_default.ensures)
 
 pub loop-i-preserved : goal.loop-i-preserved
 loop-i-preserved c =
@@ -19,7 +19,7 @@ loop-i-preserved c =
     let in-names : i < length names = omega arith in
     let in_rows : i < length rows = omega arith in
     let line = c.in-Some.ensures.1 in
-    let name = c.as-bytes.ensures.value ∙ sym (name_read names i c.index-names-i.result in-names c.index-names-i.is) in
+    let name = c.as_bytes.ensures.value ∙ sym (name_read names i c.index-names-i.result in-names c.index-names-i.is) in
     let row = row_same i old rows _ c.loop-i.invariant in
-    let now : c.noted.result ≡ noted c.args.line-number c.args.line.now (name_at names i) (get_or old i Unlisted) = cc in
+    let now : c.noted.result ≡ noted c.args.line_number c.args.line.now (name_at names i) (get_or old i Unlisted) = cc in
     row_more i old rows _ c.loop-i.invariant c.noted.result in_rows now

@@ -15,10 +15,10 @@ returns-then-eq c =
     let shows = c.requires.shows in
     let same = (slice_eq-Decides Decides-eqb _ _ _ c.eq.ensures).0 c.if-eq.true in
     c.after.ensures
-    ∙ ap (λ a. after c.args.line-number a c.args.sighting) (c.read-address.ensures ∙ ap address (ap bytes_of c.address.ensures ∙ shows.address.1))
-    ∙ sym (noted_listed c.args.line-number c.args.fields.now.line.now c.args.name.now c.args.sighting c.requires.three (sym (same ∙ ap bytes_of c.name.ensures ∙ shows.name.1)))
+    ∙ ap (λ a. after c.args.line_number a c.args.sighting) (c.read_address.ensures ∙ ap address (ap bytes_of c.address.ensures ∙ shows.address.1))
+    ∙ sym (noted_listed c.args.line_number c.args.fields.now.line.now c.args.name.now c.args.sighting c.requires.three (sym (same ∙ ap bytes_of c.name.ensures ∙ shows.name.1)))
 
 pub returns-else-eq : goal.returns-else-eq
 returns-else-eq c =
     let shows = c.requires.shows in
-    sym (noted_other c.args.line-number c.args.fields.now.line.now c.args.name.now c.args.sighting (λ e. not_from_Decides _ (slice_eq-Decides Decides-eqb _ _ _ c.eq.ensures) c.if-eq.false (sym (ap bytes_of c.name.ensures ∙ shows.name.1 ∙ e))))
+    sym (noted_other c.args.line_number c.args.fields.now.line.now c.args.name.now c.args.sighting (λ e. not_from_Decides _ (slice_eq-Decides Decides-eqb _ _ _ c.eq.ensures) c.if-eq.false (sym (ap bytes_of c.name.ensures ∙ shows.name.1 ∙ e))))
