@@ -1,6 +1,6 @@
 -- A text means the lines that it is cut into, and its end, and no others. Assumes nothing.
 use Rattle.std.proofs.Common.{◌≡◌, ℕ, suc, ◌+◌, ◌-◌, ◌^◌, ◌≤◌, min, true, false, ◌&&◌, eqb, ltb, List, [], ◌∷◌, ◌++◌, length, drop, sym, refl, ap, ◌∙◌, subst, inl, inr, ⊎_elim, add-one, arith, length-append}
-use Rattle.std.specs.List.{AllByRecursion as All}
+use Rattle.std.specs.List.{AllByRecursion}
 use Rattle.std.proofs.ByRecursion.{All-get_or, All-push, All-weaker}
 use Rattle.std.proofs.lemmas.Bool.{eq-eqb, ne_eqb, eqb-true, eqb-false, ltb-true, ltb-false, lt-ltb, le-ltb, and_parts, and_cases, and_from, both_ways, cases_Bool, cond-true, cond-false, cond_both}
 use Rattle.std.proofs.lemmas.List.{append-nil, append_assoc, get_or_append_left, get_or_at, take_at}
@@ -198,14 +198,14 @@ one_meaning bs =
 read_back : (ls : List (List ℕ)) (bs : List ℕ) → Consists ls bs → GoodLines ls → (lines_from 1 bs ≡ ls) × (end_from 1 bs ≡ Clean)
 read_back ls bs c g = let only = (one_meaning bs).alone ls Clean (c, g) in (sym only.0, sym only.1)
 
-fed_consist : (ls : List (List ℕ)) → All (λ l. GoodLine l × NoFeed l × NoReturn l) ls → Consists ls (written (10 ∷ []) ls)
+fed_consist : (ls : List (List ℕ)) → AllByRecursion (λ l. GoodLine l × NoFeed l × NoReturn l) ls → Consists ls (written (10 ∷ []) ls)
 fed_consist [] h = refl
 fed_consist (l ∷ ls) h = (h.0.1, inr (written (10 ∷ []) ls, inl (refl, h.0.2), fed_consist ls h.1))
 
 pub written_read : WrittenLinesAreRead
 written_read ls h = read_back ls (written (10 ∷ []) ls) (fed_consist ls h) (All-weaker (λ l. GoodLine l × NoFeed l × NoReturn l) GoodLine (λ l g. g.0) ls h)
 
-returned_consist : (ls : List (List ℕ)) → All (λ l. GoodLine l × NoFeed l) ls → Consists ls (written (13 ∷ 10 ∷ []) ls)
+returned_consist : (ls : List (List ℕ)) → AllByRecursion (λ l. GoodLine l × NoFeed l) ls → Consists ls (written (13 ∷ 10 ∷ []) ls)
 returned_consist [] h = refl
 returned_consist (l ∷ ls) h = (h.0.1, inr (written (13 ∷ 10 ∷ []) ls, inr refl, returned_consist ls h.1))
 

@@ -1,6 +1,6 @@
 -- What follows from the definitions, in the words of a reader of kernel lists. Assumes nothing.
 use Rattle.std.specs.Prelude.{◌≡◌, ℕ, ◌+◌, ◌<◌, true, List, [], ◌∷◌, ◌++◌, length, take, drop, Some, None, codes}
-use Rattle.std.specs.List.{AllByRecursion as All}
+use Rattle.std.specs.List.{AllByRecursion}
 use Rattle.kallsyms.specs.Line.{GoodLine}
 use Rattle.kallsyms.specs.Means.{NoFeed, NoReturn, OneMeaning}
 use Rattle.kallsyms.specs.Cut.{lines_from, end_from}
@@ -21,13 +21,13 @@ written t (l ∷ ls) = l ++ (t ++ written t ls)
 -- a text made of lines with a byte 10 after each means exactly those lines, and ends clean, if no line has a byte 10 or a byte 13 at its end
 abbrev pub WrittenLinesAreRead : Type 0
 WrittenLinesAreRead =
-    (ls : List (List ℕ)) → All (λ l. GoodLine l × NoFeed l × NoReturn l) ls
+    (ls : List (List ℕ)) → AllByRecursion (λ l. GoodLine l × NoFeed l × NoReturn l) ls
     → (lines_from 1 (written (10 ∷ []) ls) ≡ ls) × (end_from 1 (written (10 ∷ []) ls) ≡ Clean)
 
 -- and with bytes 13 and 10 after each, a line may have a byte 13 at its end too
 abbrev pub ReturnedLinesAreRead : Type 0
 ReturnedLinesAreRead =
-    (ls : List (List ℕ)) → All (λ l. GoodLine l × NoFeed l) ls
+    (ls : List (List ℕ)) → AllByRecursion (λ l. GoodLine l × NoFeed l) ls
     → (lines_from 1 (written (13 ∷ 10 ∷ []) ls) ≡ ls) × (end_from 1 (written (13 ∷ 10 ∷ []) ls) ≡ Clean)
 
 -- every line splits into the fields that are found in it, and into no others

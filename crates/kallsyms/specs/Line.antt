@@ -1,10 +1,10 @@
 -- What a line is, and its number. Assumes nothing.
 use Rattle.std.specs.Prelude.{ℕ, ◌+◌, ◌-◌, ◌^◌, ◌<◌, ◌≤◌, min, List, length}
-use Rattle.std.specs.List.{AllByRecursion as All}
+use Rattle.std.specs.List.{AllByRecursion}
 
 -- each byte is below 128
 abbrev pub Plain : List ℕ → Type 0
-Plain l = All (λ b. b < 128) l
+Plain l = AllByRecursion (λ b. b < 128) l
 
 -- a line has at most 1024 bytes, all below 128
 abbrev pub GoodLine : List ℕ → Type 0
@@ -12,7 +12,7 @@ GoodLine l = (length l ≤ 1024) × Plain l
 
 -- each of the lines is one
 abbrev pub GoodLines : List (List ℕ) → Type 0
-GoodLines ls = All GoodLine ls
+GoodLines ls = AllByRecursion GoodLine ls
 
 -- the number of the line that comes after n others: lines are counted from 1, and the number stays at the greatest of 64 bits
 abbrev pub number_after : ℕ → ℕ

@@ -1,6 +1,6 @@
 -- What a text means, said without cutting it: a relation between a text, its lines and its end. Assumes nothing.
 use Rattle.std.specs.Prelude.{◌≡◌, ℕ, ◌<◌, ◌≤◌, ◌⊎◌, List, [], ◌∷◌, ◌++◌, length, ◌≢◌}
-use Rattle.std.specs.List.{AllByRecursion as All}
+use Rattle.std.specs.List.{AllByRecursion}
 use Rattle.kallsyms.specs.Line.{Plain, GoodLines, number_after}
 use Rattle.kallsyms.specs.declared.ends.Fault.{Fault}
 use Rattle.kallsyms.specs.declared.ends.Fault.TheVariants.{LineTooLong, ByteTooLarge}
@@ -9,7 +9,7 @@ use Rattle.kallsyms.specs.declared.ends.End.TheVariants.{Clean, Broken}
 
 -- no byte is 10
 abbrev pub NoFeed : List ℕ → Type 0
-NoFeed p = All (λ b. b ≢ 10) p
+NoFeed p = AllByRecursion (λ b. b ≢ 10) p
 
 -- the last byte is not 13
 abbrev pub NoReturn : List ℕ → Type 0

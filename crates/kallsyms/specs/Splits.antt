@@ -1,15 +1,15 @@
 -- What the fields of a line are, said without looking for them: a relation between a line and its parts. Assumes nothing.
 use Rattle.std.specs.Prelude.{◌≡◌, ℕ, ◌+◌, ◌<◌, true, false, List, [], ◌∷◌, ◌++◌, length}
-use Rattle.std.specs.List.{AllByRecursion as All}
+use Rattle.std.specs.List.{AllByRecursion}
 use Rattle.kallsyms.specs.Fields.{Part, separates}
 
 -- each byte separates fields
 abbrev pub Gap : List ℕ → Type 0
-Gap l = All (λ b. separates b ≡ true) l
+Gap l = AllByRecursion (λ b. separates b ≡ true) l
 
 -- no byte separates fields
 abbrev pub Unbroken : List ℕ → Type 0
-Unbroken l = All (λ b. separates b ≡ false) l
+Unbroken l = AllByRecursion (λ b. separates b ≡ false) l
 
 -- nothing is left, or a separator comes first
 abbrev pub Bounded : List ℕ → Type 0

@@ -1,7 +1,7 @@
 -- The code of a run: bytes, as many as before, that are read as the slots that relocation made.
 use Rattle.std.proofs.Common.{◌≡◌, ℕ, zero, suc, ◌*◌, ◌/◌, ◌%◌, ◌<◌, true, List, [], ◌∷◌, length, refl, ap, ◌∙◌, arith, w16, w32}
 use borrow.Author.Gap.{read_sfits}
-use Rattle.std.specs.List.{AllByRecursion as All}
+use Rattle.std.specs.List.{AllByRecursion}
 use Rattle.std.proofs.lemmas.Bool.{cond-true, cond_both, and_parts, eqb-true}
 use Rattle.model.specs.Relocate.{Program, relocated, taken}
 use Rattle.model.specs.Runs.{State, Step, fits, next, patched_code, runs}
@@ -13,18 +13,18 @@ use Rattle.model.proofs.Loads.{EachFits, patched_size, patched_fits}
 use Rattle.model.proofs.Slotted.{slots_are_bytes, slots_length, slots_bytes_length}
 
 abbrev pub Bytes : List ℕ → Type 0
-Bytes bs = All (λ b. b < 256) bs
+Bytes bs = AllByRecursion (λ b. b < 256) bs
 
-each_all : (ss : List Slot) → EachFits ss → All FitsSlot ss
+each_all : (ss : List Slot) → EachFits ss → AllByRecursion FitsSlot ss
 each_all [] f = tt
 each_all (s ∷ ss) f = (f 0, each_all ss (λ i. f (suc i)))
 
-all_each : (ss : List Slot) → All FitsSlot ss → EachFits ss
+all_each : (ss : List Slot) → AllByRecursion FitsSlot ss → EachFits ss
 all_each [] f i = record { code = omega arith; regs = omega arith; off = read_sfits w16 0; imm = read_sfits w32 0 }
 all_each (s ∷ ss) f zero = f.0
 all_each (s ∷ ss) f (suc i) = all_each ss f.1 i
 
-relocated_fits : (p : Program) (st : State) → Bytes st.code → All FitsSlot (relocated st.object.externs p (slots st.code)).0
+relocated_fits : (p : Program) (st : State) → Bytes st.code → AllByRecursion FitsSlot (relocated st.object.externs p (slots st.code)).0
 relocated_fits p st b =
     each_all _ (patched_fits st.object.externs p.symbols (taken p.functions p.relocations) (slots st.code) (all_each (slots st.code) (slots_are_bytes.fit st.code b)))
 

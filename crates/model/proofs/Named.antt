@@ -1,7 +1,7 @@
 -- The laws of names, of chains and of the lookup.
 use Rattle.std.proofs.Common.{◌≡◌, ℕ, zero, suc, ◌+◌, ◌<◌, ◌≤◌, Bool, true, false, eqb, ltb, ◌⊎◌, ◌↔◌, List, [], ◌∷◌, ◌++◌, length, get_or, drop, Some, None, Ok, Err, Option, Result, refl, ap, ◌∙◌, subst, inl, inr, arith}
 use Rattle.std.specs.Option.{option_map}
-use Rattle.std.specs.List.{AllByRecursion as All}
+use Rattle.std.specs.List.{AllByRecursion}
 use Rattle.std.proofs.lemmas.List.{length-drop, length-take-le}
 use Rattle.std.proofs.lemmas.Bool.{leb-true, cond_both, cond-true, cond-false, eqb-true, eqb-false, ne_eqb, ltb-true, ltb-false, lt-ltb, le-ltb}
 use Rattle.model.specs.Chain.{type_at, chain}
@@ -15,7 +15,7 @@ use Rattle.model.specs.declared.btf.ChainError.TheVariants.{UnknownBtfType, Maxi
 
 -- ---- names: bytes that go on with n and a zero byte
 abbrev Ends : List ℕ → List ℕ → Type 0
-Ends bs n = All (λ b. b ≡ 0 → ⊥) n × ((rest : List ℕ) × (bs ≡ n ++ 0 ∷ rest))
+Ends bs n = AllByRecursion (λ b. b ≡ 0 → ⊥) n × ((rest : List ℕ) × (bs ≡ n ++ 0 ∷ rest))
 
 -- what comes after a byte that is not zero
 ends_more : (b : ℕ) (bs n : List ℕ) → (b ≡ 0 → ⊥) → (o : Option (List ℕ)) → ((m : List ℕ) → o ≡ Some m → Ends bs m) → option_map (λ m. b ∷ m) o ≡ Some n → Ends (b ∷ bs) n
@@ -32,7 +32,7 @@ to_zero_ends (b ∷ bs) n =
     (λ t e. let same : [] ≡ n = grind arith in subst (Ends (b ∷ bs)) same (tt, (bs, ap (λ x. x ∷ bs) (eqb-true b 0 t))))
     (λ t. ends_more b bs n (eqb-false b 0 t) (to_zero bs) (to_zero_ends bs))
 
-to_zero_reads : (n rest : List ℕ) → All (λ b. b ≡ 0 → ⊥) n → to_zero (n ++ 0 ∷ rest) ≡ Some n
+to_zero_reads : (n rest : List ℕ) → AllByRecursion (λ b. b ≡ 0 → ⊥) n → to_zero (n ++ 0 ∷ rest) ≡ Some n
 to_zero_reads [] rest h = refl
 to_zero_reads (b ∷ n) rest h = cond-false _ _ _ (ne_eqb b 0 h.0) ∙ ap (option_map (λ m. b ∷ m)) (to_zero_reads n rest h.1)
 

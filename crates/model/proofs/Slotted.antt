@@ -1,7 +1,7 @@
 -- The laws of slots and of BTF numbers.
 use Rattle.std.proofs.Common.{◌≡◌, ℕ, zero, suc, ◌+◌, ◌*◌, ◌/◌, ◌%◌, ◌^◌, ◌<◌, List, [], ◌∷◌, ◌++◌, length, get_or, take, drop, sym, refl, ap, ◌∙◌, append-nil, arith, length-drop, take-append-drop, length-take, w16, w32, to_z, of_z}
 use mir.Facts.{Fits-of_z, sfits_to_z}
-use Rattle.std.specs.List.{AllByRecursion as All}
+use Rattle.std.specs.List.{AllByRecursion}
 use Rattle.std.proofs.lemmas.Nat.{mod_below, shr-shr}
 use Rattle.std.proofs.ByRecursion.{All-take, All-drop}
 use Rattle.std.proofs.lemmas.List.{drop_all, drop_more}
@@ -39,18 +39,18 @@ slot_read s f =
     λ i. record { code = s.code; regs = s.regs; off = off i; imm = imm i }
 
 -- slots that are written before other bytes are read back before the slots of those
-pub slots_after : (ss : List Slot) (bs : List ℕ) → All FitsSlot ss → slots (slots_bytes ss ++ bs) ≡ ss ++ slots bs
+pub slots_after : (ss : List Slot) (bs : List ℕ) → AllByRecursion FitsSlot ss → slots (slots_bytes ss ++ bs) ≡ ss ++ slots bs
 slots_after [] bs h = refl
 slots_after (s ∷ ss) bs h =
     let rest = slots_bytes ss ++ bs in
     let more : length (slot_bytes s ++ rest) / 8 ≡ suc (length rest / 8) = omega arith in
     ap (λ n. first_slots n (slot_bytes s ++ rest)) more ∙ (λ i. slot_read s h.0 i ∷ slots_after ss bs h.1 i)
 
-pub slots_read_back : (ss : List Slot) → All FitsSlot ss → slots (slots_bytes ss) ≡ ss
+pub slots_read_back : (ss : List Slot) → AllByRecursion FitsSlot ss → slots (slots_bytes ss) ≡ ss
 slots_read_back ss h = ap slots (sym (append-nil (slots_bytes ss))) ∙ slots_after ss [] h ∙ append-nil ss
 
 -- ---- eight bytes are read and written back
-small : (xs : List ℕ) (k : ℕ) → All (λ b. b < 256) xs → get_or xs k 0 < 256
+small : (xs : List ℕ) (k : ℕ) → AllByRecursion (λ b. b < 256) xs → get_or xs k 0 < 256
 small [] k h = omega arith
 small (x ∷ xs) zero h = h.0
 small (x ∷ xs) (suc k) h = small xs k h.1
@@ -71,20 +71,20 @@ quartered : (a b c d : ℕ) → a < 256 → b < 256 → c < 256 → d < 256
     → let n = of_z w32 (to_z w32 (a + b * 256 + c * 65536 + d * 16777216)) in (n % 256 ≡ a) × (n / 256 % 256 ≡ b) × (n / 65536 % 256 ≡ c) × (n / 16777216 ≡ d)
 quartered a b c d p q r s = rw (of_z-to_z w32 (a + b * 256 + c * 65536 + d * 16777216) (omega arith)) (omega arith, omega arith, omega arith, omega arith)
 
-slot_written : (xs : List ℕ) → length xs ≡ 8 → All (λ b. b < 256) xs → slot_bytes (slot_of xs) ≡ xs
+slot_written : (xs : List ℕ) → length xs ≡ 8 → AllByRecursion (λ b. b < 256) xs → slot_bytes (slot_of xs) ≡ xs
 slot_written xs e h =
     let two = halved (get_or xs 2 0) (get_or xs 3 0) (small xs 2 h) (small xs 3 h) in
     let four = quartered (get_or xs 4 0) (get_or xs 5 0) (get_or xs 6 0) (get_or xs 7 0) (small xs 4 h) (small xs 5 h) (small xs 6 h) (small xs 7 h) in
     (λ i. get_or xs 0 0 ∷ get_or xs 1 0 ∷ two.0 i ∷ two.1 i ∷ four.0 i ∷ four.1 i ∷ four.2 i ∷ four.3 i ∷ []) ∙ sym (reads_all 8 0 xs (omega arith))
 
-written_back : (n : ℕ) (bs : List ℕ) → All (λ b. b < 256) bs → length bs ≡ n * 8 → slots_bytes (first_slots n bs) ≡ bs
+written_back : (n : ℕ) (bs : List ℕ) → AllByRecursion (λ b. b < 256) bs → length bs ≡ n * 8 → slots_bytes (first_slots n bs) ≡ bs
 written_back zero bs h e = sym (drop_all 0 bs (omega arith))
 written_back (suc n) bs h e =
     let front : length (take 8 bs) ≡ 8 = omega (arith, length-take 8 bs) in
     let rest : length (drop 8 bs) ≡ n * 8 = omega (arith, length-drop 8 bs) in
     (λ i. slot_written (take 8 bs) front (All-take _ 8 bs h) i ++ written_back n (drop 8 bs) (All-drop _ 8 bs h) rest i) ∙ take-append-drop 8 bs
 
-slot_fits : (xs : List ℕ) → All (λ b. b < 256) xs → FitsSlot (slot_of xs)
+slot_fits : (xs : List ℕ) → AllByRecursion (λ b. b < 256) xs → FitsSlot (slot_of xs)
 slot_fits xs h =
     let s : (k : ℕ) → get_or xs k 0 < 256 = λ k. small xs k h in
     record {
@@ -94,11 +94,11 @@ slot_fits xs h =
       imm = sfits_to_z (record { fits = omega (arith, s 4, s 5, s 6, s 7) });
     }
 
-fit : (n : ℕ) (bs : List ℕ) → All (λ b. b < 256) bs → All FitsSlot (first_slots n bs)
+fit : (n : ℕ) (bs : List ℕ) → AllByRecursion (λ b. b < 256) bs → AllByRecursion FitsSlot (first_slots n bs)
 fit zero bs h = tt
 fit (suc n) bs h = (slot_fits (take 8 bs) (All-take _ 8 bs h), fit n (drop 8 bs) (All-drop _ 8 bs h))
 
-bytes : (ss : List Slot) → All FitsSlot ss → All (λ b. b < 256) (slots_bytes ss)
+bytes : (ss : List Slot) → AllByRecursion FitsSlot ss → AllByRecursion (λ b. b < 256) (slots_bytes ss)
 bytes [] h = tt
 bytes (s ∷ ss) (f, h) =
     let off : of_z w16 s.off < 2 ^ 16 = (Fits-of_z f.off).fits in

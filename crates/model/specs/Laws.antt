@@ -1,6 +1,6 @@
 -- The laws of every list of calls on a collected object. Assumes nothing.
 use Rattle.std.specs.Prelude.{◌≡◌, ℕ, suc, ◌+◌, ◌<◌, Bool, true, false, ◌||◌, ◌⊎◌, ◌↔◌, List, [], ◌∷◌, ◌++◌, map, is_some, Some, None, Ok, Err, Option, ◌≢◌}
-use Rattle.std.specs.List.{AllByRecursion as All}
+use Rattle.std.specs.List.{AllByRecursion}
 use Rattle.kallsyms.specs.declared.ends.End.{End}
 use Rattle.kallsyms.specs.declared.ends.End.TheVariants.{Clean}
 use Rattle.model.specs.Collect.{collect}
@@ -29,7 +29,7 @@ pub record Starts (st : State) : Type 0 where
   pub tables : Tables
   pub symbols : Symbols
   pub collected : collect tables symbols ≡ Ok st.object
-  pub bytes : All (λ b. b < 256) st.code
+  pub bytes : AllByRecursion (λ b. b < 256) st.code
 
 -- ---- when a resolution is granted
 -- a line among these has that nonzero address for the name

@@ -1,6 +1,6 @@
 -- What follows from the definitions of names, chains and the lookup. Assumes nothing.
 use Rattle.std.specs.Prelude.{◌≡◌, ℕ, zero, suc, ◌<◌, ◌≤◌, Bool, true, false, ◌⊎◌, ◌↔◌, List, [], ◌∷◌, ◌++◌, length, drop, Some, None, Ok, Err, ◌≢◌, slice_index_or}
-use Rattle.std.specs.List.{AllByRecursion as All}
+use Rattle.std.specs.List.{AllByRecursion}
 use Rattle.model.specs.Chain.{type_at, resolve_type}
 use Rattle.model.specs.Kinds.{passes_on}
 use Rattle.model.specs.Lists.{lookup}
@@ -16,7 +16,7 @@ use Rattle.model.specs.declared.btf.ChainError.TheVariants.{UnknownBtfType, Maxi
 -- a name reads exactly if a zero byte follows it, and has none itself
 abbrev pub NamesEndAtZero : Type 0
 NamesEndAtZero = (strings : List ℕ) (offset : ℕ) (n : List ℕ)
-    → (name_at strings offset ≡ Some n) ↔ (All (λ b. b ≢ 0) n × ((rest : List ℕ) × (drop offset strings ≡ n ++ 0 ∷ rest)))
+    → (name_at strings offset ≡ Some n) ↔ (AllByRecursion (λ b. b ≢ 0) n × ((rest : List ℕ) × (drop offset strings ≡ n ++ 0 ∷ rest)))
 
 -- a name is its essential name, which nowhere goes on with three underscores, and then nothing or three underscores
 pub record EssentialNames : Type 0 where

@@ -1,7 +1,7 @@
 -- What follows from the definitions of slots and of BTF numbers. Assumes nothing.
 use Rattle.std.specs.Prelude.{◌≡◌, ℕ, ◌%◌, ◌^◌, ◌<◌, true, List, pos, ◌+ℤ◌, FitsSigned}
 use Rattle.std.proofs.Common.{to_z}
-use Rattle.std.specs.List.{AllByRecursion as All}
+use Rattle.std.specs.List.{AllByRecursion}
 use Rattle.std.specs.Int.{int_wrap, w16, w32}
 use Rattle.model.specs.Added.{int_row, placeholder_row}
 use Rattle.model.specs.BtfNumbers.{info_vlen, info_kind, info_flag, int_bits, int_offset, int_encoding, BTF_INT_SIGNED, with_linkage}
@@ -21,10 +21,10 @@ pub record FitsSlot (s : Slot) : Type 0 where
 
 -- slots are written as bytes and read back; whole slots of bytes are read and written back
 pub record SlotsAreBytes : Type 0 where
-  pub read_back : (ss : List Slot) → All FitsSlot ss → slots (slots_bytes ss) ≡ ss
-  pub written_back : (bs : List ℕ) → All (λ b. b < 256) bs → whole_slots bs ≡ true → slots_bytes (slots bs) ≡ bs
-  pub fit : (bs : List ℕ) → All (λ b. b < 256) bs → All FitsSlot (slots bs)
-  pub bytes : (ss : List Slot) → All FitsSlot ss → All (λ b. b < 256) (slots_bytes ss)
+  pub read_back : (ss : List Slot) → AllByRecursion FitsSlot ss → slots (slots_bytes ss) ≡ ss
+  pub written_back : (bs : List ℕ) → AllByRecursion (λ b. b < 256) bs → whole_slots bs ≡ true → slots_bytes (slots bs) ≡ bs
+  pub fit : (bs : List ℕ) → AllByRecursion (λ b. b < 256) bs → AllByRecursion FitsSlot (slots bs)
+  pub bytes : (ss : List Slot) → AllByRecursion FitsSlot ss → AllByRecursion (λ b. b < 256) (slots_bytes ss)
 
 -- setting one register keeps the other
 pub record RegistersAreApart : Type 0 where

@@ -1,6 +1,6 @@
 -- What one call changes, and what it leaves. Assumes nothing.
 use Rattle.std.specs.Prelude.{◌≡◌, ℕ, ◌+◌, ◌<◌, ◌≤◌, true, false, ◌⊎◌, ◌↔◌, List, [], length, Some, Ok, Err, Option, Result, ◌≢◌, slice_index, slice_index_or}
-use Rattle.std.specs.List.{AllByRecursion as All}
+use Rattle.std.specs.List.{AllByRecursion}
 use Rattle.kallsyms.specs.declared.ends.End.{End}
 use Rattle.model.specs.Added.{int_name}
 use Rattle.model.specs.Chain.{type_at}
@@ -81,7 +81,7 @@ FixupLeavesOtherRows = (st : State) (d : ℕ) → object_fits st.object ≡ true
 -- ---- relocation
 -- a slot that no relocation touches is as before, also after a refusal, and the code is as long
 pub record RelocationLeavesOtherSlots : Type 0 where
-  pub slot : (st : State) (p : Program) (i : ℕ) → All (λ b. b < 256) st.code
+  pub slot : (st : State) (p : Program) (i : ℕ) → AllByRecursion (λ b. b < 256) st.code
       → ((t : Taken) → In t (taken p.functions p.relocations) → Touches p.symbols (slots st.code) t i → ⊥)
       → slot_at (slots (next (relocate p) st).code) i ≡ slot_at (slots st.code) i
   pub size : (st : State) (p : Program) → length (next (relocate p) st).code ≡ length st.code
