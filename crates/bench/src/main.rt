@@ -8,6 +8,7 @@ ghost use Rattle.kallsyms.specs.Line.{count_of};
 use kallsyms::text::Text;
 use lookup::scan::look_up;
 use lookup::sighting::Sighting;
+use std::process::ExitCode;
 use std::time::{Duration, Instant};
 use std::{env, fs, io};
 
@@ -36,15 +37,16 @@ fn best(rt: &HostRuntime, bytes: &[u8], names: &[String]) -> io::Result<(Duratio
     Ok((shortest, lines))
 }
 
-fn main(rt: HostRuntime) -> io::Result<()> {
+fn main(rt: HostRuntime) -> io::Result<ExitCode> {
     let words: Vec<String> = env::args(&rt)?.collect(rt.alloc())?;
     if words.len() < 3 {
         eprintln!(rt; "usage: bench LIST NAME...")?;
-        return Err(io::Error::from(io::ErrorKind::InvalidInput));
+        return Ok(ExitCode::FAILURE);
     }
     let bytes = fs::read(&rt, words[1].as_str())?;
     let (shortest, lines) = best(&rt, &bytes, &words[2..words.len()])?;
     let micros = shortest.as_micros();
     eprintln!(rt; "best of {RUNS}: {micros} us")?;
-    println!(rt; "{lines} lines")
+    println!(rt; "{lines} lines")?;
+    Ok(ExitCode::SUCCESS)
 }

@@ -9,6 +9,7 @@ mod summary;
 use crate::answer::answer;
 use crate::request::Request;
 use std::alloc::AllocError;
+use std::process::ExitCode;
 use std::{env, fs, io};
 
 // Why the tool ends without an answer.
@@ -57,12 +58,13 @@ fn run(rt: &HostRuntime) -> Result<(), Stop> {
     Ok(())
 }
 
-fn main(rt: HostRuntime) -> Result<(), Stop> {
+fn main(rt: HostRuntime) -> ExitCode {
     match run(&rt) {
+        Ok(()) => ExitCode::SUCCESS,
+        Err(Stop::Told) => ExitCode::FAILURE,
         Err(Stop::Failed(error)) => {
-            eprintln!(rt; "ksyms: {error}")?;
-            Err(Stop::Told)
+            let _ = eprintln!(rt; "ksyms: {error}");
+            ExitCode::FAILURE
         }
-        result => result,
     }
 }

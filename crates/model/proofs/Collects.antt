@@ -7,7 +7,7 @@ use Rattle.model.specs.Added.{placeholder_row, placeholder_name, added, first_in
 use Rattle.model.specs.Chain.{no_row, type_at, chain, resolve_type}
 use Rattle.model.specs.Collect.{section_of, entries_of, has_func, fresh, symbol_named, chain_read, symbol_read, name_read, row_read, entry_read, duplicate, room_for_func, room_refusal, made, granted_unless, collect_rows, collect_entries, collect_section, collect}
 use Rattle.model.specs.CollectLaws.{Declares}
-use Rattle.model.specs.Collected.{declares, Distinct, Collected, object_fits}
+use Rattle.model.specs.Collected.{Distinct, Collected, object_fits}
 use Rattle.model.specs.Externs.{Extern, Object}
 use Rattle.model.specs.Kinds.{is_func, is_var}
 use Rattle.model.specs.Lists.{In, any, or_else, with_first, each, InTurn}

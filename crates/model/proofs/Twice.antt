@@ -5,7 +5,7 @@ use Rattle.std.proofs.lemmas.List.{length-set, set-get_or, get_or-set_same, get_
 use Rattle.std.proofs.lemmas.Bool.{true≢false, cases_Bool, cases_eq, cond-true, cond-false, and_left, or_cases, eqb-true, ne_eqb}
 use Rattle.model.specs.Added.{int_row, is_int_of_four, first_int, with_int, room_for_int}
 use Rattle.model.specs.Chain.{no_row, type_at}
-use Rattle.model.specs.Collected.{declares, Collected, object_fits}
+use Rattle.model.specs.Collected.{Collected, object_fits}
 use Rattle.model.specs.Externs.{Extern, Object}
 use Rattle.model.specs.Fixup.{int_of, global_func, global_var, sized, placed, entry_at, with_rows, fix_func_by, fix_var, fix_entry, fix_entries, fix_section, fix_found, fixed_tables, fixed_for, fix_refusal_for, fix_refusal, fixed}
 use Rattle.model.specs.Kinds.{kind_number, is_int, is_func, is_var, is_data_sec}
