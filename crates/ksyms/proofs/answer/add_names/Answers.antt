@@ -15,11 +15,11 @@ loop-i-preserved c =
     let lt = c.loop-i-test.true in
     let len = length-map names string_bytes in
     let same = c.requires in
-    let in-names : i < length (map string_bytes names) = omega arith in
+    let in_names : i < length (map string_bytes names) = omega arith in
     let in_rows : i < length ss = omega arith in
-    let name = c.as-str.ensures.value ∙ sym (name_read names i c.index-names-i.result lt c.index-names-i.is) in
-    let line = c.in-ok-line.ensures ∙ ap (λ n. line_of (told_text n (get_or ss i Unlisted))) name in
-    told_more (map string_bytes names) ss i (string_bytes c.loop-i.text) _ c.loop-i.invariant (string_bytes c.push-str.new.self) c.as-str-in-loop-i.result.now in-names in_rows (c.as-str-in-loop-i.ensures.value ∙ line) c.in-ok-push-str.ensures.bytes
+    let name = c.as_str.ensures.value ∙ sym (name_read names i c.index-names-i.result lt c.index-names-i.is) in
+    let line = c.in_ok-line.ensures ∙ ap (λ n. line_of (told_text n (get_or ss i Unlisted))) name in
+    told_more (map string_bytes names) ss i (string_bytes c.loop-i.text) _ c.loop-i.invariant (string_bytes c.push_str.new.self) c.as_str-in-loop-i.result.now in_names in_rows (c.as_str-in-loop-i.ensures.value ∙ line) c.in_ok-push_str.ensures.bytes
 
 pub returns : goal.returns
 returns c =

@@ -16,10 +16,10 @@ loop-i-preserved c =
     let i = c.loop-i.i in
     let least = c.min-rows.ensures in
     let taken = c.loop-i-test.true in
-    let in-names : i < length names = omega arith in
+    let in_names : i < length names = omega arith in
     let in_rows : i < length rows = omega arith in
     let line = c.in-Some.ensures.1 in
-    let name = c.as_bytes.ensures.value ∙ sym (name_read names i c.index-names-i.result in-names c.index-names-i.is) in
+    let name = c.as_bytes.ensures.value ∙ sym (name_read names i c.index-names-i.result in_names c.index-names-i.is) in
     let row = row_same i old rows _ c.loop-i.invariant in
     let now : c.noted.result ≡ noted c.args.line_number c.args.line.now (name_at names i) (get_or old i Unlisted) = cc in
     row_more i old rows _ c.loop-i.invariant c.noted.result in_rows now
