@@ -5,11 +5,11 @@ use std::test::Fail;
 fn fields_have_their_places(rt: HostRuntime) -> Result<(), Fail> {
     let fields = Fields::of(b" \ta0  T\x0bcard_q\t[card]").ok_or("three fields")?;
     assert_eq!(rt; fields.address().start, 2);
-    assert_eq!(rt; fields.address().bytes, b"a0");
+    assert_eq!(rt; fields.address().bytes, b"a0".as_slice());
     assert_eq!(rt; fields.letter().start, 6);
-    assert_eq!(rt; fields.letter().bytes, b"T");
+    assert_eq!(rt; fields.letter().bytes, b"T".as_slice());
     assert_eq!(rt; fields.name().start, 8);
-    assert_eq!(rt; fields.name().bytes, b"card_q");
+    assert_eq!(rt; fields.name().bytes, b"card_q".as_slice());
     Ok(())
 }
 
