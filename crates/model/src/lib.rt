@@ -2,7 +2,7 @@
 #![tactic(auto)]
 
 pub mod btf;
+pub mod display;
 pub mod laws;
 pub mod refusal;
 pub mod rows;
-pub mod texts;
