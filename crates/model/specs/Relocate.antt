@@ -1,5 +1,5 @@
 -- What relocation answers and makes of the slots. Assumes nothing.
-use Rattle.std.specs.Prelude.{ℕ, suc, ◌+◌, ◌-◌, ◌*◌, ◌/◌, ◌%◌, Bool, true, false, cond, not, ◌&&◌, leb, List, [], ◌∷◌, ◌++◌, length, ℤ, pos, is_some, Some, None, Ok, Err, Option, Result, ◌==◌, nat_eq, nat_le, nat_lt, slice_index_or, slice_set}
+use Rattle.std.specs.Prelude.{ℕ, suc, ◌+◌, ◌-◌, ◌*◌, ◌/◌, ◌%◌, Bool, true, false, cond, not, ◌&&◌, List, [], ◌∷◌, ◌++◌, length, ℤ, pos, is_some, Some, None, Ok, Err, Option, Result, ◌==◌, nat_le, nat_lt, slice_index_or, slice_set}
 use Rattle.model.specs.Externs.{Extern, extern_named}
 use Rattle.model.specs.Lists.{all, ascends, earlier, lookup}
 use Rattle.model.specs.Names.{part}
@@ -29,7 +29,7 @@ functions_follow at n (f ∷ fs) = f.start == at && functions_follow (at + f.len
 abbrev pub functions_fit : List Function → ℕ → Bool
 functions_fit fs n =
     nat_le (length fs) MAX_FUNCTIONS
-    && (all (λ f. leb f.section_offset MAX_SECTION_OFFSET) fs
+    && (all (λ f. nat_le f.section_offset MAX_SECTION_OFFSET) fs
     && (ascends (λ f g. earlier (f.section, f.address) (g.section, g.address)) fs && functions_follow 0 n fs))
 
 abbrev pub relocations_fit : List Relocation → Bool
@@ -76,7 +76,7 @@ has_next t = nat_lt (slot_index t + 1) (t.function.start + t.function.len)
 
 -- ---- its symbol
 abbrev pub symbol_of : Symbols → Taken → Option (ℕ × Symbol)
-symbol_of ss t = lookup (λ s. nat_eq s.index t.relocation.symbol) 0 ss.rows
+symbol_of ss t = lookup (λ s. s.index == t.relocation.symbol) 0 ss.rows
 
 abbrev pub is_unknown : SymbolKind → Bool
 is_unknown symbol_kinds.Unknown = true
