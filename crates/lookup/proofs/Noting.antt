@@ -8,7 +8,7 @@ use Rattle.std.specs.declared.alloc.Global.{Global}
 use Rattle.kallsyms.specs.Fields.{fields, field}
 use Rattle.kallsyms.specs.Address.{address}
 use Rattle.lookup.specs.After.{after}
-use Rattle.lookup.specs.Noted.{lists, noted, name_at}
+use Rattle.lookup.specs.Noted.{noted, name_at}
 use Rattle.lookup.specs.declared.sighting.Sighting.{Sighting}
 use Rattle.lookup.specs.declared.sighting.Sighting.TheVariants.{Unlisted}
 
