@@ -1,0 +1,5 @@
+// What crate `model` writes for people, on examples.
+#![tactic(auto)]
+
+#[cfg(test)]
+mod refusals;
