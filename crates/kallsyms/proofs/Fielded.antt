@@ -1,15 +1,10 @@
 -- The fields of a line, found by looking for separators. Assumes nothing.
-use Rattle.std.proofs.Common.{◌≡◌, ℕ, zero, suc, ◌+◌, ◌-◌, ◌<◌, ◌≤◌, Bool, true, false, not, List, [], ◌∷◌, length, get_or, take, drop, sym, refl, ap, ◌∙◌, ⊎_elim, add-zero, add-one, arith, length-drop, length-take}
+use Rattle.std.proofs.Common.{◌≡◌, ℕ, zero, suc, ◌+◌, ◌-◌, ◌<◌, ◌≤◌, Bool, true, false, not, List, [], ◌∷◌, length, get_or, take, drop, Option, Some, None, MatchOption, unwrap_or, sym, refl, ap, ◌∙◌, subst, ⊎_elim, add-zero, add-one, arith, length-drop, length-take}
 use mathlib.Core.Bool.{beq}
 use Rattle.std.proofs.lemmas.Bool.{cond-true, cond-false, true≢false, both_ways, cases_lt}
-use Rattle.std.proofs.lemmas.List.{get_or-drop, drop-drop, drop_all}
+use Rattle.std.proofs.lemmas.List.{length-take-le, get_or-drop, drop-drop, drop_all}
+use Rattle.std.specs.List.{AllWithin, HoldsAt}
 use Rattle.kallsyms.specs.Fields.{Part, separates, extend, fields, Begins}
-
-pub unlike : (s t : Bool) → beq s t ≡ false → s ≡ not t
-unlike true true e = absurd (true≢false e)
-unlike true false e = refl
-unlike false true e = refl
-unlike false false e = absurd (true≢false e)
 
 -- separators at the front are in no field
 skip_front : (l : List ℕ) (n k : ℕ) → k ≤ length l → ((j : ℕ) → j < k → separates (get_or l j 0) ≡ true) → fields n l ≡ fields (n + k) (drop k l)
@@ -37,40 +32,36 @@ take_front (b ∷ c ∷ l) n (suc (suc k)) z h f g =
     ∙ ap (extend n b) (take_front (c ∷ l) (suc n) (suc k) (omega arith) (omega arith) (λ j lt. f (suc j) (omega arith)) (λ lt. g (omega arith)))
     ∙ ap (λ i. record { start = n; bytes = b ∷ take (suc k) (c ∷ l) } ∷ fields i (drop (suc k) (c ∷ l))) m
 
--- a field that ends where it starts is none: the line ends there
-pub no_field : (l : List ℕ) (s e : ℕ) → s ≤ e → e ≤ s → (s < length l → separates (get_or l s 0) ≡ false) → (e < length l → separates (get_or l e 0) ≡ true) → length l ≤ s
-no_field l s e less more f g =
-    let z : e ≡ s = omega arith in
-    let other : s < length l → length l ≤ s = λ lt. absurd (both_ways _ (f lt) (ap (λ i. separates (get_or l i 0)) (sym z) ∙ g (omega arith))) in
-    ⊎_elim other (λ h. h) (cases_lt s (length l))
+-- bytes that are all separators
+pub no_word : (l : List ℕ) (n : ℕ) → AllWithin (λ b. separates b ≡ true) l 0 (length l) → fields n l ≡ []
+no_word l n f =
+    skip_front l n (length l) (omega arith) (λ j lt. f j 0 (omega arith) lt) ∙ ap (fields (n + length l)) (drop_all (length l) l (omega arith))
 
-module _ (l : List ℕ) (from start : ℕ) (less : from ≤ start) (within : start ≤ length l) (skipped : (k : ℕ) → k < start → from ≤ k → separates (get_or l k 0) ≡ true) where
-  -- from the start of a search to its end
-  pub skipped_to : fields from (drop from l) ≡ fields start (drop start l)
-  skipped_to =
-      let k = start - from in
-      let z : from + k ≡ start = omega arith in
-      skip_front (drop from l) from k (simp length-drop (omega arith)) (λ j lt. ap separates (get_or-drop from l j 0) ∙ skipped (from + j) (omega arith) (omega arith))
-      ∙ ap (fields (from + k)) (drop-drop k from l)
-      ∙ ap (λ i. fields i (drop i l)) z
+-- how far a word goes: to the first separator, or to the end
+abbrev EndsWord : List ℕ → ℕ → Type 0
+EndsWord w n = AllWithin (λ b. separates b ≡ false) w 0 n × (n ≤ length w) × (n < length w → separates (get_or w n 0) ≡ true)
 
-  pub none_left : length l ≤ start → fields from (drop from l) ≡ []
-  none_left h = skipped_to ∙ ap (fields start) (drop_all start l h)
+ended : (w : List ℕ) (r : Option ℕ) → MatchOption r (AllWithin (λ b. separates b ≡ false) w 0 (length w)) (λ i. (i < length w) × HoldsAt (λ b. separates b ≡ true) w i × AllWithin (λ b. separates b ≡ false) w 0 i) → EndsWord w (unwrap_or r (length w))
+ended w None f = (f, omega arith, λ lt. absurd (omega arith))
+ended w (Some i) f = (f.2, let lt = f.0 in omega arith, λ _. f.1 0)
 
-  found_to : (end : ℕ) → start < end → end ≤ length l → ((k : ℕ) → k < end → start ≤ k → separates (get_or l k 0) ≡ false) → (end < length l → separates (get_or l end 0) ≡ true) → fields from (drop from l) ≡ record { start = start; bytes = take (end - start) (drop start l) } ∷ fields end (drop end l)
-  found_to end lt h f g =
-      let k = end - start in
-      let z : start + k ≡ end = omega arith in
-      let first : List Part → List Part = λ fs. record { start = start; bytes = take k (drop start l) } ∷ fs in
-      skipped_to
-      ∙ take_front (drop start l) start k (omega arith) (simp length-drop (omega arith))
-      (λ j lt. ap separates (get_or-drop start l j 0) ∙ f (start + j) (omega arith) (omega arith))
-      (λ lt. ap separates (get_or-drop start l k 0) ∙ ap (λ i. separates (get_or l i 0)) z ∙ g (let m = length-drop start l in omega arith))
-      ∙ ap (λ m. first (fields (start + k) m)) (drop-drop k start l)
-      ∙ ap (λ i. first (fields i (drop i l))) z
+pub ends_word : (w : List ℕ) (r : Option ℕ) (n : ℕ) → n ≡ unwrap_or r (length w) → MatchOption r (AllWithin (λ b. separates b ≡ false) w 0 (length w)) (λ i. (i < length w) × HoldsAt (λ b. separates b ≡ true) w i × AllWithin (λ b. separates b ≡ false) w 0 i) → EndsWord w n
+ends_word w r n e f = subst (EndsWord w) (sym e) (ended w r f)
 
-  -- and so the field that is found begins there
-  pub begins : (end : ℕ) → start < end → end ≤ length l → ((k : ℕ) → k < end → start ≤ k → separates (get_or l k 0) ≡ false) → (end < length l → separates (get_or l end 0) ≡ true) → Begins l from start (take (end - start) (drop start l))
-  begins end lt h f g =
-      let n : start + length (take (end - start) (drop start l)) ≡ end = simp (length-take, length-drop) (omega arith) in
-      (found_to end lt h f g ∙ ap (λ i. record { start = start; bytes = take (end - start) (drop start l) } ∷ fields i (drop i l)) (sym n), omega arith)
+-- and so the field that is found begins there
+pub begins : (l tail word : List ℕ) (from gap n : ℕ) → tail ≡ drop from l → word ≡ drop gap tail → from ≤ length l → gap < length tail → HoldsAt (λ b. separates b ≡ false) tail gap → AllWithin (λ b. separates b ≡ true) tail 0 gap → EndsWord word n → Begins l from (from + gap) (take n word)
+begins l tail word from gap n e f h lt at before w =
+    let size : length word ≡ length tail - gap = ap length f ∙ length-drop gap tail in
+    let here : separates (get_or word 0 0) ≡ false = ap (λ x. separates (get_or x 0 0)) f ∙ ap separates (get_or-drop gap tail 0 0 ∙ ap (λ i. get_or tail i 0) (add-zero gap)) ∙ at 0 in
+    let some : 0 < n = ⊎_elim (λ pos. pos) (λ z. let none : n ≡ 0 = omega arith in absurd (both_ways _ here (ap (λ i. separates (get_or word i 0)) (sym none) ∙ w.2 (omega arith)))) (cases_lt 0 n) in
+    let bytes : length (take n word) ≡ n = length-take-le n word w.1 in
+    let all : length tail ≡ length l - from = ap length e ∙ length-drop from l in
+    let place : drop n word ≡ drop (from + gap + n) l = ap (drop n) (f ∙ ap (drop gap) e ∙ drop-drop gap from l) ∙ drop-drop n (from + gap) l in (
+      ap (fields from) (sym e)
+          ∙ skip_front tail from gap (omega arith) (λ j lt. before j 0 (omega arith) lt)
+          ∙ ap (fields (from + gap)) (sym f)
+          ∙ take_front word (from + gap) n some w.1 (λ j lt. w.0 j 0 (omega arith) lt) w.2
+          ∙ ap (λ x. record { start = from + gap; bytes = take n word } ∷ fields (from + gap + n) x) place
+          ∙ ap (λ i. record { start = from + gap; bytes = take n word } ∷ fields (from + gap + i) (drop (from + gap + i) l)) (sym bytes),
+      omega arith,
+    )

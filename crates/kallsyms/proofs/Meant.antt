@@ -1,5 +1,5 @@
 -- A text means the lines that it is cut into, and its end, and no others. Assumes nothing.
-use Rattle.std.proofs.Common.{◌≡◌, ℕ, suc, ◌+◌, ◌-◌, ◌^◌, ◌≤◌, min, true, false, ◌&&◌, eqb, ltb, List, [], ◌∷◌, ◌++◌, length, drop, sym, refl, ap, ◌∙◌, subst, inl, inr, ⊎_elim, add-one, arith, length-append}
+use Rattle.std.proofs.Common.{◌≡◌, ℕ, suc, ◌+◌, ◌-◌, ◌^◌, ◌≤◌, min, true, false, ◌&&◌, eqb, ltb, List, [], ◌∷◌, ◌++◌, length, drop, sym, refl, ap, ◌∙◌, subst, inl, inr, ⊎_elim, add-one, arith, length-append, Ok, Err}
 use Rattle.std.specs.List.{AllByRecursion}
 use Rattle.std.proofs.ByRecursion.{All-get_or, All-push, All-weaker}
 use Rattle.std.proofs.lemmas.Bool.{eq-eqb, ne_eqb, eqb-true, eqb-false, ltb-true, ltb-false, lt-ltb, le-ltb, and_parts, and_cases, and_from, both_ways, cases_Bool, cond-true, cond-false, cond_both}
@@ -12,8 +12,7 @@ use Rattle.kallsyms.specs.Means.{NoFeed, NoReturn, Ends, Consists, Has, Means, O
 use Rattle.kallsyms.specs.Laws.{written, WrittenLinesAreRead, ReturnedLinesAreRead}
 use Rattle.kallsyms.specs.declared.ends.Fault.{Fault}
 use Rattle.kallsyms.specs.declared.ends.Fault.TheVariants.{LineTooLong, ByteTooLarge}
-use Rattle.kallsyms.specs.declared.ends.End.{End}
-use Rattle.kallsyms.specs.declared.ends.End.TheVariants.{Clean, Broken}
+use Rattle.kallsyms.specs.Ends.{End}
 use Rattle.kallsyms.proofs.Pieced.{trim, first_piece, last_piece, drop_past}
 
 -- a byte 13 at the end is what `trim` takes away
@@ -113,13 +112,13 @@ Plain-plain (b ∷ p) h = and_from (ltb b 128) (plain p) (lt-ltb b 128 h.0) (Pla
 not-Plain : (p : List ℕ) → (Plain p → ⊥) → plain p ≡ false
 not-Plain p h = ⊎_elim (λ e. absurd (h (plain-Plain p e))) (λ e. e) (cases_Bool (plain p))
 
-good_verdict : (n : ℕ) (p : List ℕ) → GoodLine p → verdict n p ≡ Clean
+good_verdict : (n : ℕ) (p : List ℕ) → GoodLine p → verdict n p ≡ Ok tt
 good_verdict n p g = cond-false _ _ _ (le-ltb 1024 (length p) g.0) ∙ cond-true _ _ _ (Plain-plain p g.1)
 
-bad_verdict : (f : Fault) (n : ℕ) (p : List ℕ) → Has f n p → verdict n p ≡ Broken f
-bad_verdict (LineTooLong m) n p h = cond-true _ _ _ (lt-ltb 1024 (length p) h.1) ∙ ap (λ i. Broken (LineTooLong i)) (sym h.0)
+bad_verdict : (f : Fault) (n : ℕ) (p : List ℕ) → Has f n p → verdict n p ≡ Err f
+bad_verdict (LineTooLong m) n p h = cond-true _ _ _ (lt-ltb 1024 (length p) h.1) ∙ ap (λ i. Err (LineTooLong i)) (sym h.0)
 bad_verdict (ByteTooLarge m) n p h =
-    cond-false _ _ _ (le-ltb 1024 (length p) h.1) ∙ cond-false _ _ _ (not-Plain p h.2) ∙ ap (λ i. Broken (ByteTooLarge i)) (sym h.0)
+    cond-false _ _ _ (le-ltb 1024 (length p) h.1) ∙ cond-false _ _ _ (not-Plain p h.2) ∙ ap (λ i. Err (ByteTooLarge i)) (sym h.0)
 
 -- the number of the line after lines of which the first has number n
 abbrev count : ℕ → List (List ℕ) → ℕ
@@ -132,12 +131,12 @@ count_is n (l ∷ ls) h = let e = count_is (number_after n) ls (omega arith) in 
 
 -- pieces, of which the first has number n, are lines up to an end
 abbrev Split : ℕ → List (List ℕ) → List (List ℕ) → End → Type 0
-Split n ps ls Clean = (ps ≡ ls) × GoodLines ls
-Split n ps ls (Broken f) = (p : List ℕ) × (qs : List (List ℕ)) × (ps ≡ ls ++ p ∷ qs) × GoodLines ls × Has f (count n ls) p
+Split n ps ls (Ok tt) = (ps ≡ ls) × GoodLines ls
+Split n ps ls (Err f) = (p : List ℕ) × (qs : List (List ℕ)) × (ps ≡ ls ++ p ∷ qs) × GoodLines ls × Has f (count n ls) p
 
 split_more : (n : ℕ) (p : List ℕ) (ps ls : List (List ℕ)) (e : End) → GoodLine p → Split (number_after n) ps ls e → Split n (p ∷ ps) (p ∷ ls) e
-split_more n p ps ls Clean g s = (ap (λ l. p ∷ l) s.0, (g, s.1))
-split_more n p ps ls (Broken f) g s = (s.0, s.1, ap (λ l. p ∷ l) s.2, (g, s.3), s.4)
+split_more n p ps ls (Ok tt) g s = (ap (λ l. p ∷ l) s.0, (g, s.1))
+split_more n p ps ls (Err f) g s = (s.0, s.1, ap (λ l. p ∷ l) s.2, (g, s.3), s.4)
 
 split_at : (n : ℕ) (ps : List (List ℕ)) → Split n ps (kept n ps) (ended n ps)
 split_at n [] = (refl, tt)
@@ -161,12 +160,12 @@ good_front n (l ∷ ls) ps g =
     )
 
 split_alone : (n : ℕ) (ps ls : List (List ℕ)) (e : End) → Split n ps ls e → (ls ≡ kept n ps) × (e ≡ ended n ps)
-split_alone n ps ls Clean s =
+split_alone n ps ls (Ok tt) s =
     let front = good_front n ls [] s.1 in
     let nil = append-nil ls in
     let same : ps ≡ ls ++ [] = s.0 ∙ sym nil in
     (sym (ap (kept n) same ∙ front.0 ∙ nil), sym (ap (ended n) same ∙ front.1))
-split_alone n ps ls (Broken f) s =
+split_alone n ps ls (Err f) s =
     let p = s.0 in
     let qs = s.1 in
     let m = count n ls in
@@ -178,13 +177,13 @@ split_alone n ps ls (Broken f) s =
 
 -- a text means lines and an end where its pieces are split so
 split_means : (bs : List ℕ) (ls : List (List ℕ)) (e : End) → Split 1 (pieces bs) ls e → Means bs ls e
-split_means bs ls Clean s = (subst (λ x. Consists x bs) s.0 (pieces_consist bs), s.1)
-split_means bs ls (Broken f) s =
+split_means bs ls (Ok tt) s = (subst (λ x. Consists x bs) s.0 (pieces_consist bs), s.1)
+split_means bs ls (Err f) s =
     (s.0, s.1, subst (λ x. Consists x bs) s.2 (pieces_consist bs), s.3, subst (λ n. Has f n s.0) (count_is 1 ls (omega arith)) s.4)
 
 means_split : (bs : List ℕ) (ls : List (List ℕ)) (e : End) → Means bs ls e → Split 1 (pieces bs) ls e
-means_split bs ls Clean m = (consists_pieces ls bs m.0, m.1)
-means_split bs ls (Broken f) m =
+means_split bs ls (Ok tt) m = (consists_pieces ls bs m.0, m.1)
+means_split bs ls (Err f) m =
     (m.0, m.1, consists_pieces (ls ++ m.0 ∷ m.1) bs m.2, m.3, subst (λ n. Has f n m.0) (sym (count_is 1 ls (omega arith))) m.4)
 
 pub one_meaning : (bs : List ℕ) → OneMeaning bs (lines_from 1 bs) (end_from 1 bs)
@@ -195,8 +194,8 @@ one_meaning bs =
     }
 
 -- what is written as lines is read as those lines
-read_back : (ls : List (List ℕ)) (bs : List ℕ) → Consists ls bs → GoodLines ls → (lines_from 1 bs ≡ ls) × (end_from 1 bs ≡ Clean)
-read_back ls bs c g = let only = (one_meaning bs).alone ls Clean (c, g) in (sym only.0, sym only.1)
+read_back : (ls : List (List ℕ)) (bs : List ℕ) → Consists ls bs → GoodLines ls → (lines_from 1 bs ≡ ls) × (end_from 1 bs ≡ Ok tt)
+read_back ls bs c g = let only = (one_meaning bs).alone ls (Ok tt) (c, g) in (sym only.0, sym only.1)
 
 fed_consist : (ls : List (List ℕ)) → AllByRecursion (λ l. GoodLine l × NoFeed l × NoReturn l) ls → Consists ls (written (10 ∷ []) ls)
 fed_consist [] h = refl

@@ -1,21 +1,11 @@
 -- The pieces of a text, and what a scan of it finds. Assumes nothing.
-use Rattle.std.proofs.Common.{◌≡◌, ℕ, zero, suc, ◌+◌, ◌-◌, ◌<◌, ◌≤◌, Bool, true, false, cond, ◌&&◌, eqb, ltb, List, [], ◌∷◌, ◌++◌, length, get_or, take, drop, sym, refl, ap, ◌∙◌, ⊎_elim, add-one, arith}
-use native.Mathlib.Nat.{sub-zero}
-use Rattle.std.proofs.lemmas.Bool.{eq-eqb, ne_eqb, eqb-true, lt-ltb, ltb-true, and_left, and_right, and_from, and_parts, both_ways, cases_Bool, cond-true, cond-false, cond_both}
+use Rattle.std.proofs.Common.{◌≡◌, ℕ, zero, suc, ◌+◌, ◌-◌, ◌<◌, ◌≤◌, Bool, true, false, cond, ◌&&◌, eqb, ltb, List, [], ◌∷◌, ◌++◌, length, get_or, take, drop, sym, refl, ap, ◌∙◌, ⊎_elim, add-one, arith, None, Ok}
+use Rattle.std.proofs.lemmas.Bool.{eq-eqb, ne_eqb, eqb-true, lt-ltb, le-ltb, ltb-true, and_left, and_right, and_from, and_parts, both_ways, cases_Bool, cond-true, cond-false, cond_both}
 use Rattle.std.proofs.lemmas.List.{drop_at, drop-drop, drop_all, take_all, take_more, take_rest}
+use Rattle.std.specs.Str.{IsAscii}
 use Rattle.kallsyms.specs.Cut.{plain, feeds, onto, pieces, lines_from, end_from}
 use Rattle.kallsyms.specs.Pieces.{returns, bare}
 use Rattle.kallsyms.specs.Steps.{Steps}
-use Rattle.kallsyms.specs.declared.ends.End.TheVariants.{Clean}
-use Rattle.kallsyms.specs.declared.ends.Next as nexts
-
-and_true : (t : Bool) → t && true ≡ t
-and_true true = refl
-and_true false = refl
-
-and_assoc : (s t u : Bool) → (s && t) && u ≡ s && (t && u)
-and_assoc true t u = refl
-and_assoc false t u = refl
 
 -- what is left past a list at the front
 pub drop_past : (xs ys : List ℕ) (k : ℕ) → drop (length xs + k) (xs ++ ys) ≡ drop k ys
@@ -26,24 +16,6 @@ abbrev pub trim : List ℕ → List ℕ
 trim [] = []
 trim (b ∷ []) = cond (eqb b 13) [] (b ∷ [])
 trim (b ∷ c ∷ bs) = b ∷ trim (c ∷ bs)
-
-pub plain_push : (p : List ℕ) (b : ℕ) → plain (p ++ b ∷ []) ≡ plain p && ltb b 128
-plain_push [] b = and_true (ltb b 128)
-plain_push (x ∷ p) b = ap (λ t. ltb x 128 && t) (plain_push p b) ∙ sym (and_assoc (ltb x 128) (plain p) (ltb b 128))
-
--- one byte more that is seen
-pub plain_more : (bs : List ℕ) (i : ℕ) (t : Bool) → i < length bs → t ≡ plain (take i bs) → t && ltb (get_or bs i 0) 128 ≡ plain (take (i + 1) bs)
-plain_more bs i t h e =
-    ap (λ u. u && ltb (get_or bs i 0) 128) e ∙ sym (ap plain (take_more bs i 0 h) ∙ plain_push (take i bs) (get_or bs i 0))
-
--- a byte 13 is below 128
-plain_trim : (p : List ℕ) → plain p ≡ plain (trim p)
-plain_trim [] = refl
-plain_trim (b ∷ []) =
-    cond_both (eqb b 13) [] (b ∷ []) (λ q. plain (b ∷ []) ≡ plain q)
-    (λ e. and_from (ltb b 128) true (lt-ltb b 128 (let f = eqb-true b 13 e in omega arith)) refl)
-    (λ _. refl)
-plain_trim (b ∷ c ∷ p) = ap (λ t. ltb b 128 && t) (plain_trim (c ∷ p))
 
 trim_13 : (p : List ℕ) → 0 < length p → get_or p (length p - 1) 0 ≡ 13 → take (length p - 1) p ≡ trim p
 trim_13 [] h e = absurd (omega arith)
@@ -99,27 +71,29 @@ first_piece (b ∷ c ∷ bs) (suc (suc i)) h f e =
     ∙ ap (onto b) (first_piece (c ∷ bs) (suc i) (omega arith) (λ k l. f (suc k) (omega arith)) e)
 
 -- the two ways of `first_piece`
-pub piece_found : (bs s : List ℕ) (i : ℕ) → i < length bs → ((k : ℕ) → k < i → get_or bs k 0 ≡ 10 → ⊥) → get_or bs i 0 ≡ 10 → s ≡ bare (take (i - 0) bs) → pieces bs ≡ s ∷ pieces (take (length bs - (i + 1)) (drop (i + 1) bs))
+pub piece_found : (bs s : List ℕ) (i : ℕ) → i < length bs → ((k : ℕ) → k < i → get_or bs k 0 ≡ 10 → ⊥) → get_or bs i 0 ≡ 10 → s ≡ bare (take i bs) → pieces bs ≡ s ∷ pieces (take (length bs - (i + 1)) (drop (i + 1) bs))
 piece_found bs s i h f e g =
     let first = first_piece bs i h f e in
     let same = bare_trim (take i bs) in
-    let z = sub-zero i in
     let rest = take_rest bs (i + 1) in
     let one = add-one i in
     cc
 
-pub plain_found : (bs s : List ℕ) (i : ℕ) (t : Bool) → t ≡ plain (take i bs) → s ≡ bare (take (i - 0) bs) → t ≡ plain s
-plain_found bs s i t e g =
-    e ∙ plain_trim (take i bs) ∙ ap plain (sym (bare_trim (take i bs))) ∙ ap (λ n. plain (bare (take n bs))) (sym (sub-zero i)) ∙ sym (ap plain g)
+pub piece_last : (bs : List ℕ) → 0 < length bs → ((k : ℕ) → k < length bs → get_or bs k 0 ≡ 10 → ⊥) → pieces bs ≡ bs ∷ pieces (take (length bs - length bs) (drop (length bs) bs))
+piece_last bs h f =
+    last_piece bs h f ∙ ap (λ l. bs ∷ pieces l) (sym (take_rest bs (length bs) ∙ drop_all (length bs) bs (omega arith)))
 
-pub piece_last : (bs : List ℕ) (i : ℕ) → 0 < length bs → length bs ≤ i → ((k : ℕ) → k < i → get_or bs k 0 ≡ 10 → ⊥) → pieces bs ≡ bs ∷ pieces (take (length bs - i) (drop i bs))
-piece_last bs i h g f =
-    last_piece bs h (λ k l. f k (omega arith)) ∙ ap (λ l. bs ∷ pieces l) (sym (take_rest bs i ∙ drop_all i bs g))
+-- bytes that are all below 128, and bytes that are not
+pub ascii_plain : (bs : List ℕ) → IsAscii bs → plain bs ≡ true
+ascii_plain [] h = refl
+ascii_plain (b ∷ bs) h = and_from (ltb b 128) (plain bs) (lt-ltb b 128 (h 0)) (ascii_plain bs (λ i. h (suc i)))
 
-pub plain_last : (bs : List ℕ) (i : ℕ) (t : Bool) → length bs ≤ i → t ≡ plain (take i bs) → t ≡ plain bs
-plain_last bs i t g e = e ∙ ap plain (take_all i bs g)
+pub not_plain : (bs : List ℕ) (i : ℕ) → 128 ≤ get_or bs i 0 → plain bs ≡ false
+not_plain [] i h = absurd (omega arith)
+not_plain (b ∷ bs) zero h = and_left (ltb b 128) (plain bs) (le-ltb b 128 h)
+not_plain (b ∷ bs) (suc i) h = and_right (ltb b 128) (plain bs) (not_plain bs i h)
 
 -- nothing is left
-pub empty_ends : (bs : List ℕ) (n : ℕ) (b : List ℕ) → length bs ≡ 0 → Steps (lines_from n bs) (end_from n bs) b (nexts.TheVariants.End Clean) (lines_from n bs) (end_from n bs) b
+pub empty_ends : (bs : List ℕ) (n : ℕ) (b : List ℕ) → length bs ≡ 0 → Steps (lines_from n bs) (end_from n bs) b (Ok None) (lines_from n bs) (end_from n bs) b
 empty_ends [] n b h = (refl, refl, refl, refl)
 empty_ends (x ∷ bs) n b h = absurd (omega arith)

@@ -1,16 +1,15 @@
 -- Why the lines of each kind of source are good. Assumes nothing.
-use Rattle.std.specs.Prelude.{◌≡◌, ℕ, true, List, [], ◌∷◌, length, nat_lt}
+use Rattle.std.specs.Prelude.{◌≡◌, ℕ, true, List, [], ◌∷◌, length, nat_lt, Ok, Err}
 use Rattle.std.proofs.ByRecursion.{All-append}
 use Rattle.std.proofs.lemmas.Bool.{ltb-true, ltb-false, and_parts, cond_both}
 use Rattle.kallsyms.specs.Line.{Plain, GoodLine, GoodLines, number_after}
 use Rattle.kallsyms.specs.Joins.{joined_lines}
 use Rattle.kallsyms.specs.Cut.{plain, verdict, keep, kept}
-use Rattle.kallsyms.specs.declared.ends.End.{End}
-use Rattle.kallsyms.specs.declared.ends.End.TheVariants.{Clean, Broken}
+use Rattle.kallsyms.specs.Ends.{End}
 
 pub good_joined : (ls : List (List ℕ)) (e : End) (ms : List (List ℕ)) → GoodLines ls → GoodLines ms → GoodLines (joined_lines ls e ms)
-good_joined ls Clean ms f g = All-append GoodLine ls ms f g
-good_joined ls (Broken x) ms f g = f
+good_joined ls (Ok tt) ms f g = All-append GoodLine ls ms f g
+good_joined ls (Err x) ms f g = f
 
 pub plain-Plain : (p : List ℕ) → plain p ≡ true → Plain p
 plain-Plain [] e = tt

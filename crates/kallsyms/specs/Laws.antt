@@ -1,5 +1,5 @@
 -- What follows from the definitions, in the words of a reader of kernel lists. Assumes nothing.
-use Rattle.std.specs.Prelude.{◌≡◌, ℕ, ◌+◌, ◌<◌, true, List, [], ◌∷◌, ◌++◌, length, take, drop, Some, None, codes}
+use Rattle.std.specs.Prelude.{◌≡◌, ℕ, ◌+◌, ◌<◌, true, List, [], ◌∷◌, ◌++◌, length, take, drop, Some, None, codes, Ok}
 use Rattle.std.specs.List.{AllByRecursion}
 use Rattle.kallsyms.specs.Line.{GoodLine}
 use Rattle.kallsyms.specs.Means.{NoFeed, NoReturn, OneMeaning}
@@ -7,7 +7,6 @@ use Rattle.kallsyms.specs.Cut.{lines_from, end_from}
 use Rattle.kallsyms.specs.Fields.{Part, separates, fields, field}
 use Rattle.kallsyms.specs.Splits.{Unbroken, Splits}
 use Rattle.kallsyms.specs.Address.{address}
-use Rattle.kallsyms.specs.declared.ends.End.TheVariants.{Clean}
 
 -- every text means the lines and the end that are cut from it, and no others
 abbrev pub TextsHaveOneMeaning : Type 0
@@ -22,13 +21,13 @@ written t (l ∷ ls) = l ++ (t ++ written t ls)
 abbrev pub WrittenLinesAreRead : Type 0
 WrittenLinesAreRead =
     (ls : List (List ℕ)) → AllByRecursion (λ l. GoodLine l × NoFeed l × NoReturn l) ls
-    → (lines_from 1 (written (10 ∷ []) ls) ≡ ls) × (end_from 1 (written (10 ∷ []) ls) ≡ Clean)
+    → (lines_from 1 (written (10 ∷ []) ls) ≡ ls) × (end_from 1 (written (10 ∷ []) ls) ≡ Ok tt)
 
 -- and with bytes 13 and 10 after each, a line may have a byte 13 at its end too
 abbrev pub ReturnedLinesAreRead : Type 0
 ReturnedLinesAreRead =
     (ls : List (List ℕ)) → AllByRecursion (λ l. GoodLine l × NoFeed l) ls
-    → (lines_from 1 (written (13 ∷ 10 ∷ []) ls) ≡ ls) × (end_from 1 (written (13 ∷ 10 ∷ []) ls) ≡ Clean)
+    → (lines_from 1 (written (13 ∷ 10 ∷ []) ls) ≡ ls) × (end_from 1 (written (13 ∷ 10 ∷ []) ls) ≡ Ok tt)
 
 -- every line splits into the fields that are found in it, and into no others
 abbrev pub LinesHaveOneListOfFields : Type 0

@@ -1,4 +1,6 @@
 pub mod Line
+pub mod Ends
+pub mod Faults
 pub mod Steps
 pub mod Cut
 pub mod Pieces

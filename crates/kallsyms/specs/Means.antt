@@ -1,11 +1,10 @@
 -- What a text means, said without cutting it: a relation between a text, its lines and its end. Assumes nothing.
-use Rattle.std.specs.Prelude.{◌≡◌, ℕ, ◌<◌, ◌≤◌, ◌⊎◌, List, [], ◌∷◌, ◌++◌, length, ◌≢◌}
+use Rattle.std.specs.Prelude.{◌≡◌, ℕ, ◌<◌, ◌≤◌, ◌⊎◌, List, [], ◌∷◌, ◌++◌, length, ◌≢◌, Ok, Err}
 use Rattle.std.specs.List.{AllByRecursion}
 use Rattle.kallsyms.specs.Line.{Plain, GoodLines, number_after}
 use Rattle.kallsyms.specs.declared.ends.Fault.{Fault}
 use Rattle.kallsyms.specs.declared.ends.Fault.TheVariants.{LineTooLong, ByteTooLarge}
-use Rattle.kallsyms.specs.declared.ends.End.{End}
-use Rattle.kallsyms.specs.declared.ends.End.TheVariants.{Clean, Broken}
+use Rattle.kallsyms.specs.Ends.{End}
 
 -- no byte is 10
 abbrev pub NoFeed : List ℕ → Type 0
@@ -31,8 +30,8 @@ Has (ByteTooLarge m) n p = (m ≡ n) × (length p ≤ 1024) × (Plain p → ⊥)
 
 -- a text means these lines and this end: it consists of lines; or of lines, a piece that has the fault, and more pieces
 abbrev pub Means : List ℕ → List (List ℕ) → End → Type 0
-Means bs ls Clean = Consists ls bs × GoodLines ls
-Means bs ls (Broken f) = (p : List ℕ) × (ps : List (List ℕ)) × Consists (ls ++ p ∷ ps) bs × GoodLines ls × Has f (number_after (length ls)) p
+Means bs ls (Ok tt) = Consists ls bs × GoodLines ls
+Means bs ls (Err f) = (p : List ℕ) × (ps : List (List ℕ)) × Consists (ls ++ p ∷ ps) bs × GoodLines ls × Has f (number_after (length ls)) p
 
 -- a text means these lines and this end, and no others
 pub record OneMeaning (bs : List ℕ) (ls : List (List ℕ)) (e : End) : Type 0 where

@@ -4,7 +4,6 @@ ghost use Rattle.kallsyms.specs.Address.{unsigned as unsigned_of, limited, addre
 
 use crate::digits::digit;
 
-const PLUS: u8 = 43;
 // The greatest number that one digit more still leaves below 2 ^ 64.
 const LAST_TO_SHIFT: u64 = 1152921504606846975;
 
@@ -12,11 +11,7 @@ const LAST_TO_SHIFT: u64 = 1152921504606846975;
 fn unsigned(field: &[u8]) -> &[u8]
     ensures { result.now ≡ unsigned_of field.now }
 {
-    if !field.is_empty() && field[0] == PLUS {
-        &field[1..field.len()]
-    } else {
-        field
-    }
+    field.strip_prefix(b"+").unwrap_or(field)
 }
 
 // A number with one digit more, or none if that passes 64 bits.

@@ -1,7 +1,11 @@
-// How a source of lines ends, and what one step of it answers.
+// How a source of lines ends.
+ghost use Rattle.std.specs.Prelude.{Some};
+ghost use Rattle.kallsyms.specs.Faults.{fault_text};
+
+use std::fmt;
 
 /// What is wrong with a line, and the number of that line, counted from 1.
-#[derive(Clone, Copy, Debug, PartialEq)]
+#[derive(Clone, Copy, Debug, PartialEq, Eq)]
 pub enum Fault {
     /// The line has more than 1,024 bytes.
     LineTooLong { line: u64 },
@@ -9,20 +13,17 @@ pub enum Fault {
     ByteTooLarge { line: u64 },
 }
 
-/// How a source ends after its last line.
-#[derive(Clone, Copy, Debug, PartialEq)]
-pub enum End {
-    /// Every line was given.
-    Clean,
-    /// A line with a fault stands after the last line that was given.
-    Broken(Fault),
-}
+/// How a source ends after its last line: every line was given, or a line with a fault stands after the last that was given.
+pub type End = Result<(), Fault>;
 
-/// What one step of a source answers.
-#[derive(Clone, Copy, Debug, PartialEq)]
-pub enum Next {
-    /// A line of this many bytes stands at the front of the buffer.
-    Line(usize),
-    /// No line is left.
-    End(End),
+/// The line that has the fault, and what is wrong with it.
+impl fmt::Display for Fault {
+    ghost output = { λ f. Some (fault_text f) };
+
+    fn fmt<W: fmt::Write>(&self, f: &mut fmt::Formatter<W>) -> fmt::Result {
+        match *self {
+            Fault::LineTooLong { line } => write!(f, "line {line} has more than 1024 bytes"),
+            Fault::ByteTooLarge { line } => write!(f, "line {line} has a byte of 128 or more"),
+        }
+    }
 }

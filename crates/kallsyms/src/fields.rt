@@ -28,37 +28,22 @@ fn is_separator(b: u8) -> bool
     (b >= 9 && b <= 13) || b == 32
 }
 
-// The index of the first byte from `from` on that separates fields, or of the first that does not; or the length.
-fn seek(line: &[u8], from: usize, separator: bool) -> usize
-    requires { from ≤ length line.now }
-    ensures least { from ≤ result }
-    ensures within { result ≤ length line.now }
-    ensures before { (k : ℕ) → k < result → from ≤ k → separates (slice_index line.now k) ≡ not separator }
-    ensures found { result < length line.now → separates (slice_index line.now result) ≡ separator }
-{
-    for i in from..line.len() {
-        if is_separator(line[i]) == separator {
-            return i;
-        }
-    }
-    line.len()
-}
-
 // The first field that begins at `from` or after it.
 fn field_after(line: &[u8], from: usize) -> Option<Field<'_>>
     requires { from ≤ length line.now }
     ensures { MatchOption result (fields_from from (drop from line.now) ≡ []) (λ f. Begins line.now from f.start f.bytes.now) }
 {
-    let start = seek(line, from, false);
-    let end = seek(line, start, true);
-    if start < end {
-        Some(Field {
-            start,
-            bytes: &line[start..end],
-        })
-    } else {
-        None
-    }
+    let tail = &line[from..];
+    let gap = tail.iter().position(|b| !is_separator(*b))?;
+    let word = &tail[gap..];
+    let len = word
+        .iter()
+        .position(|b| is_separator(*b))
+        .unwrap_or(word.len());
+    Some(Field {
+        start: from + gap,
+        bytes: &word[..len],
+    })
 }
 
 impl<'a> Fields<'a> {

@@ -3,7 +3,7 @@ ghost use Rattle.std.specs.Prelude.{◌≡◌};
 ghost use Rattle.kallsyms.specs.Joins.{joined_lines, joined_end};
 ghost use Rattle.kallsyms.specs.Goodness.{good_joined};
 
-use crate::ends::{End, Next};
+use crate::ends::Fault;
 use crate::source::{LINE_LEN, LineSource};
 
 /// The lines of a first source and, if that ends clean, those of a second.
@@ -30,11 +30,10 @@ impl<A: LineSource, B: LineSource> LineSource for Joined<A, B> {
 
     ghost good = { λ s. good_joined (A.LineSource.lines s.first) (A.LineSource.end s.first) (B.LineSource.lines s.second) (A.LineSource.good s.first) (B.LineSource.good s.second) };
 
-    fn next(&mut self, buffer: &mut [u8; LINE_LEN]) -> Next {
-        match self.first.next(buffer) {
-            Next::Line(n) => Next::Line(n),
-            Next::End(End::Clean) => self.second.next(buffer),
-            Next::End(End::Broken(fault)) => Next::End(End::Broken(fault)),
+    fn next(&mut self, buffer: &mut [u8; LINE_LEN]) -> Result<Option<usize>, Fault> {
+        match self.first.next(buffer)? {
+            Some(len) => Ok(Some(len)),
+            None => self.second.next(buffer),
         }
     }
 }

@@ -2,8 +2,8 @@
 #![tactic(auto)]
 
 pub mod address;
+pub mod choice;
 pub mod digits;
-pub mod either;
 pub mod ends;
 pub mod fields;
 pub mod joined;

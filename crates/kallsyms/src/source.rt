@@ -1,10 +1,10 @@
 // What a source of lines means, and how one is read.
 ghost use Rattle.std.specs.Prelude.{ℕ, List};
-ghost use Rattle.kallsyms.specs.declared.ends.End.{End};
+ghost use Rattle.kallsyms.specs.Ends.{End};
 ghost use Rattle.kallsyms.specs.Line.{GoodLines};
 ghost use Rattle.kallsyms.specs.Steps.{Steps};
 
-use crate::ends::Next;
+use crate::ends::Fault;
 
 /// The most bytes that a line may have, and the size of a line buffer.
 pub const LINE_LEN: usize = 1024;
@@ -20,7 +20,7 @@ pub trait LineSource {
     // Each line that is to come has at most 1024 bytes, all below 128.
     ghost good: { (s : Self) → GoodLines (lines s) };
 
-    /// Puts the next line at the front of the buffer, with zeros after it, or answers the end.
-    fn next(&mut self, buffer: &mut [u8; LINE_LEN]) -> Next
+    /// Puts the next line at the front of the buffer, with zeros after it, and answers its length; or none if every line was given, or the fault that ends the source.
+    fn next(&mut self, buffer: &mut [u8; LINE_LEN]) -> Result<Option<usize>, Fault>
         ensures { Steps (lines self.old) (end self.old) buffer.old result (lines self.new) (end self.new) buffer.new };
 }

@@ -4,14 +4,9 @@ ghost use Rattle.kallsyms.specs.Cut.{lines_from, end_from, pieces, plain, verdic
 ghost use Rattle.kallsyms.specs.Pieces.{bare};
 ghost use Rattle.kallsyms.specs.Goodness.{good_kept};
 
-use crate::ends::{End, Fault, Next};
+use crate::ends::{End, Fault};
 use crate::source::{LINE_LEN, LineSource};
-
-const LINE_FEED: u8 = 10;
-
-const CARRIAGE_RETURN: u8 = 13;
-
-const FIRST_TOO_LARGE: u8 = 128;
+use memchr::memchr;
 
 /// A text, from the line that is next.
 #[derive(Clone, Copy)]
@@ -34,76 +29,47 @@ impl<'a> Text<'a> {
     }
 }
 
-// What stands before the first line feed of a text, what follows it, and whether the bytes before it are below 128.
+// What stands before the first line feed of a text, and what follows it.
 #[derive(Clone, Copy)]
 struct Piece<'a> {
     bytes: &'a [u8],
     rest: &'a [u8],
-    plain: bool,
-}
-
-// The index of the first line feed, or the length; and whether each byte before it is below 128.
-fn line_feed(bytes: &[u8]) -> (usize, bool)
-    ensures within { result.0 ≤ length bytes.now }
-    ensures before { (k : ℕ) → k < result.0 → slice_index bytes.now k ≢ 10 }
-    ensures found { result.0 < length bytes.now → slice_index bytes.now result.0 ≡ 10 }
-    ensures plain { result.1 ≡ plain (take result.0 bytes.now) }
-{
-    let mut all_plain = true;
-    for (i, b) in bytes.iter().enumerate() {
-        if *b == LINE_FEED {
-            return (i, all_plain);
-        }
-        all_plain = all_plain & (*b < FIRST_TOO_LARGE);
-    }
-    (bytes.len(), all_plain)
 }
 
 // Without a carriage return at the end.
 fn stripped(piece: &[u8]) -> &[u8]
     ensures { result.now ≡ bare piece.now }
 {
-    let n = piece.len();
-    if n > 0 && piece[n - 1] == CARRIAGE_RETURN {
-        &piece[0..n - 1]
-    } else {
-        piece
-    }
+    piece.strip_suffix(b"\r").unwrap_or(piece)
 }
 
 // The first piece of a text that is not empty.
 fn first_piece(bytes: &[u8]) -> Piece<'_>
     requires { 0 < length bytes.now }
     ensures cut { pieces bytes.now ≡ result.bytes.now ∷ pieces result.rest.now }
-    ensures plain { result.plain ≡ plain result.bytes.now }
 {
-    let (at, plain) = line_feed(bytes);
-    if at < bytes.len() {
-        Piece {
-            bytes: stripped(&bytes[0..at]),
-            rest: &bytes[at + 1..bytes.len()],
-            plain,
-        }
-    } else {
-        Piece {
+    match memchr(b'\n', bytes) {
+        Some(at) => Piece {
+            bytes: stripped(&bytes[..at]),
+            rest: &bytes[at + 1..],
+        },
+        None => Piece {
             bytes,
-            rest: &bytes[at..bytes.len()],
-            plain,
-        }
+            rest: &bytes[bytes.len()..],
+        },
     }
 }
 
 // Whether the piece at a line number is a line, or else its fault.
-fn judged(line: u64, piece: &Piece) -> End
-    requires { piece.now.plain ≡ plain piece.now.bytes.now }
-    ensures { result ≡ verdict line piece.now.bytes.now }
+fn judged(line: u64, piece: &[u8]) -> End
+    ensures { result ≡ verdict line piece.now }
 {
-    if piece.bytes.len() > LINE_LEN {
-        End::Broken(Fault::LineTooLong { line })
-    } else if piece.plain {
-        End::Clean
+    if piece.len() > LINE_LEN {
+        Err(Fault::LineTooLong { line })
+    } else if piece.is_ascii() {
+        Ok(())
     } else {
-        End::Broken(Fault::ByteTooLarge { line })
+        Err(Fault::ByteTooLarge { line })
     }
 }
 
@@ -122,20 +88,17 @@ impl<'a> LineSource for Text<'a> {
 
     ghost good = { λ s. good_kept s.line (pieces s.rest.now) };
 
-    fn next(&mut self, buffer: &mut [u8; LINE_LEN]) -> Next {
+    fn next(&mut self, buffer: &mut [u8; LINE_LEN]) -> Result<Option<usize>, Fault> {
         let bytes = self.rest;
         if bytes.is_empty() {
-            return Next::End(End::Clean);
+            return Ok(None);
         }
         let piece = first_piece(bytes);
-        let verdict = judged(self.line, &piece);
-        if let End::Broken(_) = verdict {
-            return Next::End(verdict);
-        }
+        judged(self.line, piece.bytes)?;
         *buffer = [0; LINE_LEN];
         put(buffer, piece.bytes);
         self.rest = piece.rest;
         self.line = self.line.saturating_add(1);
-        Next::Line(piece.bytes.len())
+        Ok(Some(piece.bytes.len()))
     }
 }

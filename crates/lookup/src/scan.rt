@@ -8,7 +8,7 @@ ghost use Rattle.lookup.specs.declared.sighting.Sighting.TheVariants.{Unlisted};
 
 use crate::sighting::Sighting;
 use kallsyms::address::read_address;
-use kallsyms::ends::{End, Next};
+use kallsyms::ends::End;
 use kallsyms::fields::Fields;
 use kallsyms::source::{LINE_LEN, LineSource};
 
@@ -62,11 +62,12 @@ fn note_lines<S: LineSource>(
     let mut count: u64 = 0;
     'lines: loop {
         match source.next(&mut buffer) {
-            Next::Line(len) => {
+            Ok(Some(len)) => {
                 count = count.saturating_add(1);
                 note_line(names, sightings, count, &buffer[0..len]);
             }
-            Next::End(end) => return Reading { lines: count, end },
+            Ok(None) => return Reading { lines: count, end: Ok(()) },
+            Err(fault) => return Reading { lines: count, end: Err(fault) },
         }
     }
 }
