@@ -1,10 +1,9 @@
 -- The fields of a line, found by looking for separators. Assumes nothing.
-use Rattle.std.proofs.Common.{◌≡◌, ℕ, zero, suc, ◌+◌, ◌-◌, ◌<◌, ◌≤◌, Bool, true, false, not, List, [], ◌∷◌, length, get_or, take, drop, Option, Some, None, MatchOption, unwrap_or, sym, refl, ap, ◌∙◌, subst, ⊎_elim, add-zero, add-one, arith, length-drop, length-take}
-use mathlib.Core.Bool.{beq}
-use Rattle.std.proofs.lemmas.Bool.{cond-true, cond-false, true≢false, both_ways, cases_lt}
+use Rattle.std.proofs.Common.{◌≡◌, ℕ, zero, suc, ◌+◌, ◌-◌, ◌<◌, ◌≤◌, true, false, not, List, [], ◌∷◌, length, get_or, take, drop, Option, Some, None, MatchOption, unwrap_or, sym, ap, ◌∙◌, subst, ⊎_elim, add-zero, add-one, arith, length-drop}
+use Rattle.std.proofs.lemmas.Bool.{cond-true, cond-false, both_ways, cases_lt}
 use Rattle.std.proofs.lemmas.List.{length-take-le, get_or-drop, drop-drop, drop_all}
 use Rattle.std.specs.List.{AllWithin, HoldsAt}
-use Rattle.kallsyms.specs.Fields.{Part, separates, extend, fields, Begins}
+use Rattle.kallsyms.specs.Fields.{separates, extend, fields, Begins}
 
 -- separators at the front are in no field
 skip_front : (l : List ℕ) (n k : ℕ) → k ≤ length l → ((j : ℕ) → j < k → separates (get_or l j 0) ≡ true) → fields n l ≡ fields (n + k) (drop k l)

@@ -1,7 +1,7 @@
 -- The pieces of a text, and what a scan of it finds. Assumes nothing.
-use Rattle.std.proofs.Common.{◌≡◌, ℕ, zero, suc, ◌+◌, ◌-◌, ◌<◌, ◌≤◌, Bool, true, false, cond, ◌&&◌, eqb, ltb, List, [], ◌∷◌, ◌++◌, length, get_or, take, drop, sym, refl, ap, ◌∙◌, ⊎_elim, add-one, arith, None, Ok}
+use Rattle.std.proofs.Common.{◌≡◌, ℕ, zero, suc, ◌+◌, ◌-◌, ◌<◌, ◌≤◌, true, false, cond, ◌&&◌, eqb, ltb, List, [], ◌∷◌, ◌++◌, length, get_or, take, drop, sym, refl, ap, ◌∙◌, ⊎_elim, add-one, arith, None, Ok}
 use Rattle.std.proofs.lemmas.Bool.{eq-eqb, ne_eqb, eqb-true, lt-ltb, le-ltb, ltb-true, and_left, and_right, and_from, and_parts, both_ways, cases_Bool, cond-true, cond-false, cond_both}
-use Rattle.std.proofs.lemmas.List.{drop_at, drop-drop, drop_all, take_all, take_more, take_rest}
+use Rattle.std.proofs.lemmas.List.{drop_at, drop-drop, drop_all, take_rest}
 use Rattle.std.specs.Str.{IsAscii}
 use Rattle.kallsyms.specs.Cut.{plain, feeds, onto, pieces, lines_from, end_from}
 use Rattle.kallsyms.specs.Pieces.{returns, bare}

@@ -4,7 +4,7 @@ ghost use Rattle.either.specs.Either.{either};
 
 use crate::ends::Fault;
 use crate::source::{LINE_LEN, LineSource};
-use either::Either;
+pub use either::Either;
 
 /// The lines of the source that it is.
 impl<A: LineSource, B: LineSource> LineSource for Either<A, B> {

@@ -1,7 +1,7 @@
 // A line of a kernel list as fields: an address, a letter, a name, and what may follow.
 ghost use Rattle.std.specs.Prelude.{◌≡◌, ℕ, ◌+◌, ◌<◌, ◌≤◌, not, [], length, drop, MatchOption, slice_index};
-ghost use Rattle.kallsyms.specs.Fields.{separates, Begins, fields as fields_from};
-ghost use Rattle.kallsyms.specs.Shown.{Shows};
+ghost use Rattle.kallsyms.specs.Fields.{separates, Begins, field, fields as fields_from};
+ghost use Rattle.kallsyms.specs.Shown.{Is, Shows};
 
 /// A part of a line, and the index in the line at which it begins.
 #[derive(Clone, Copy)]
@@ -12,13 +12,14 @@ pub struct Field<'a> {
     pub bytes: &'a [u8],
 }
 
-/// The first three fields of a line that has as many.
+/// The first three fields of a line that has as many, each where it stands.
 #[derive(Clone, Copy)]
 pub struct Fields<'a> {
     line: &'a [u8],
     address: Field<'a>,
     letter: Field<'a>,
     name: Field<'a>,
+    ghost shows: { Shows line.now address letter name },
 }
 
 // Whether a byte separates fields.
@@ -49,7 +50,7 @@ fn field_after(line: &[u8], from: usize) -> Option<Field<'_>>
 impl<'a> Fields<'a> {
     /// The first three fields of the line, or none if it has fewer.
     pub fn of(line: &'a [u8]) -> Option<Fields<'a>>
-        ensures { MatchOption result (length (fields_from 0 line.now) < 3) (λ f. (3 ≤ length (fields_from 0 line.now)) × (f.line.now ≡ line.now) × Shows f) }
+        ensures { MatchOption result (length (fields_from 0 line.now) < 3) (λ f. f.line.now ≡ line.now) }
     {
         let address = field_after(line, 0)?;
         let letter = field_after(line, address.start + address.bytes.len())?;
@@ -64,21 +65,24 @@ impl<'a> Fields<'a> {
 
     /// The first field of the line.
     pub fn address(&self) -> Field<'a>
-        ensures { result ≡ self.now.address }
+        ensures held { result ≡ self.now.address }
+        ensures shown { Is result (field 0 self.now.line.now) }
     {
         self.address
     }
 
     /// The second field of the line.
     pub fn letter(&self) -> Field<'a>
-        ensures { result ≡ self.now.letter }
+        ensures held { result ≡ self.now.letter }
+        ensures shown { Is result (field 1 self.now.line.now) }
     {
         self.letter
     }
 
     /// The third field of the line.
     pub fn name(&self) -> Field<'a>
-        ensures { result ≡ self.now.name }
+        ensures held { result ≡ self.now.name }
+        ensures shown { Is result (field 2 self.now.line.now) }
     {
         self.name
     }
