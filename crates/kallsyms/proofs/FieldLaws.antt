@@ -3,12 +3,12 @@ use Rattle.std.proofs.Common.{◌≡◌, ℕ, zero, suc, ◌+◌, ◌-◌, ◌<�
 use native.Mathlib.Nat.{sub-zero}
 use Rattle.std.proofs.ByRecursion.{All-get_or}
 use Rattle.std.proofs.lemmas.Bool.{not-true, not-false, both_ways, cond-true, cond_both}
+use Rattle.std.proofs.Math.Seq.{drop-append-add}
 use Rattle.std.proofs.lemmas.List.{append-nil, append_assoc, get_or_append_left, get_or-append-add, take_at, drop_at}
 use Rattle.kallsyms.specs.Fields.{Part, separates, goes_on, extend, fields, field}
 use Rattle.kallsyms.specs.Splits.{Gap, Unbroken, Bounded, Splits}
 use Rattle.kallsyms.specs.Laws.{LinesHaveOneListOfFields, FieldsAreParts, WordsAreFields}
 use Rattle.kallsyms.proofs.Fielded.{take_front}
-use Rattle.kallsyms.proofs.Pieced.{drop_past}
 
 -- a gap is in no field
 gap_skip : (n : ℕ) (g l : List ℕ) → Gap g → fields n (g ++ l) ≡ fields (n + length g) l
@@ -116,7 +116,7 @@ part_at n (p ∷ ps) l (suc k) d h lt =
       omega arith,
       ap (λ i. take (length q.bytes) (drop i l)) z
           ∙ ap (λ x. take (length q.bytes) (drop (length (h.0 ++ p.bytes) + (q.start - next)) x)) whole
-          ∙ ap (take (length q.bytes)) (drop_past (h.0 ++ p.bytes) h.1 (q.start - next))
+          ∙ ap (take (length q.bytes)) (drop-append-add (h.0 ++ p.bytes) h.1 (q.start - next))
           ∙ more.1,
       more.2,
       more.3,

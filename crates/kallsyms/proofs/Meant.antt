@@ -3,6 +3,7 @@ use Rattle.std.proofs.Common.{◌≡◌, ℕ, suc, ◌+◌, ◌-◌, ◌^◌, �
 use Rattle.std.specs.List.{AllByRecursion}
 use Rattle.std.proofs.ByRecursion.{All-get_or, All-push, All-weaker}
 use Rattle.std.proofs.lemmas.Bool.{eq-eqb, ne_eqb, eqb-true, eqb-false, ltb-true, ltb-false, lt-ltb, le-ltb, and_parts, and_cases, and_from, both_ways, cases_Bool, cond-true, cond-false, cond_both}
+use Rattle.std.proofs.Math.Seq.{drop-append-add}
 use Rattle.std.proofs.lemmas.List.{append-nil, append_assoc, get_or_append_left, get_or_at, take_at}
 use Rattle.kallsyms.specs.Line.{Plain, GoodLine, GoodLines, number_after}
 use Rattle.kallsyms.specs.Cut.{feeds, onto, pieces, plain, verdict, keep, kept, ended, lines_from, end_from}
@@ -13,7 +14,7 @@ use Rattle.kallsyms.specs.Laws.{written, WrittenLinesAreRead, ReturnedLinesAreRe
 use Rattle.kallsyms.specs.declared.ends.Fault.{Fault}
 use Rattle.kallsyms.specs.declared.ends.Fault.TheVariants.{LineTooLong, ByteTooLarge}
 use Rattle.kallsyms.specs.Ends.{End}
-use Rattle.kallsyms.proofs.Pieced.{trim, first_piece, last_piece, drop_past}
+use Rattle.kallsyms.proofs.Pieced.{trim, first_piece, last_piece}
 
 -- a byte 13 at the end is what `trim` takes away
 trim_kept : (p : List ℕ) → NoReturn p → trim p ≡ p
@@ -34,7 +35,7 @@ pieces_fed p bs f =
     (λ k lt e. All-get_or (λ b. b ≡ 10 → ⊥) p k 0 lt f (sym (get_or_append_left p (10 ∷ bs) 0 k lt) ∙ e))
     (get_or_at p 10 bs 0 (length p) refl)
     ∙ ap (λ l. trim l ∷ pieces (drop (suc (length p)) (p ++ 10 ∷ bs))) (take_at p (10 ∷ bs) (length p) refl)
-    ∙ ap (λ l. trim p ∷ pieces l) (ap (λ n. drop n (p ++ 10 ∷ bs)) (sym (add-one (length p))) ∙ drop_past p (10 ∷ bs) 1)
+    ∙ ap (λ l. trim p ∷ pieces l) (ap (λ n. drop n (p ++ 10 ∷ bs)) (sym (add-one (length p))) ∙ drop-append-add p (10 ∷ bs) 1)
 
 pieces_ended : (p bs rest : List ℕ) → NoFeed p → Ends p bs rest → pieces bs ≡ p ∷ pieces rest
 pieces_ended p bs rest f =

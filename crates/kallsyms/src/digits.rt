@@ -2,7 +2,7 @@
 ghost use Rattle.std.specs.Prelude.{◌≡◌};
 ghost use Rattle.kallsyms.specs.Address.{digit as digit_of, entry as entry_of};
 
-// What the table holds for a byte that is no digit.
+// What the table holds for a byte that is no digit: a number, as a rule of the project fixes the table, 256 entries of a byte each; `digit` answers an Option.
 const NO_DIGIT: u8 = 255;
 
 // The value of each byte, from 0 to 255, as a hexadecimal digit, or NO_DIGIT.

@@ -26,7 +26,7 @@ pub struct Fields<'a> {
 fn is_separator(b: u8) -> bool
     ensures { result ≡ separates b }
 {
-    (b >= 9 && b <= 13) || b == 32
+    matches!(b, 9..=13 | 32)
 }
 
 // The first field that begins at `from` or after it.
