@@ -1,11 +1,10 @@
 -- The pieces of a text, and what a scan of it finds. Assumes nothing.
-use Rattle.std.proofs.Common.{◌≡◌, ℕ, zero, suc, ◌+◌, ◌-◌, ◌<◌, ◌≤◌, true, false, cond, ◌&&◌, eqb, ltb, List, [], ◌∷◌, length, get_or, take, drop, sym, refl, ap, ◌∙◌, ⊎_elim, add-one, arith, None, Ok}
+use Rattle.std.proofs.Common.{◌≡◌, ℕ, zero, suc, ◌+◌, ◌-◌, ◌<◌, ◌≤◌, true, false, cond, ◌&&◌, eqb, ltb, List, [], ◌∷◌, length, get_or, take, drop, sym, refl, ap, ◌∙◌, ⊎_elim, add-one, arith}
 use Rattle.std.proofs.lemmas.Bool.{eq-eqb, ne_eqb, eqb-true, lt-ltb, le-ltb, ltb-true, and_left, and_right, and_from, and_parts, both_ways, cases_Bool, cond-true, cond-false, cond_both}
 use Rattle.std.proofs.lemmas.List.{drop_all, take_rest}
 use Rattle.std.specs.Str.{IsAscii}
-use Rattle.kallsyms.specs.Cut.{plain, feeds, onto, pieces, lines_from, end_from}
+use Rattle.kallsyms.specs.Cut.{plain, feeds, onto, pieces}
 use Rattle.kallsyms.specs.Pieces.{returns, bare}
-use Rattle.kallsyms.specs.Steps.{Steps}
 
 -- without a byte 13 at the end, byte by byte
 abbrev pub trim : List ℕ → List ℕ
@@ -88,8 +87,3 @@ pub not_plain : (bs : List ℕ) (i : ℕ) → 128 ≤ get_or bs i 0 → plain bs
 not_plain [] i h = absurd (omega arith)
 not_plain (b ∷ bs) zero h = and_left (ltb b 128) (plain bs) (le-ltb b 128 h)
 not_plain (b ∷ bs) (suc i) h = and_right (ltb b 128) (plain bs) (not_plain bs i h)
-
--- nothing is left
-pub empty_ends : (bs : List ℕ) (n : ℕ) (b : List ℕ) → length bs ≡ 0 → Steps (lines_from n bs) (end_from n bs) b (Ok None) (lines_from n bs) (end_from n bs) b
-empty_ends [] n b h = (refl, refl, refl, refl)
-empty_ends (x ∷ bs) n b h = absurd (omega arith)
