@@ -1,2 +1,2 @@
-pub mod Hexed
+pub mod Padded
 pub mod ReadBack

@@ -1,5 +1,4 @@
-// Addresses and faults as text for people.
+// Addresses as text for people.
 #![tactic(auto)]
 
-pub mod faults;
 pub mod hex;
