@@ -1,58 +1,50 @@
--- A line that lists a name, and one that does not. Assumes nothing.
-use Rattle.std.proofs.Common.{◌≡◌, ℕ, zero, suc, ◌+◌, ◌<◌, ◌≤◌, Bool, false, cond, ltb, leb, ◌≢◌, List, [], length, get_or, set, replicate, string_bytes, String, sym, refl, ap, ◌∙◌, ⊎_elim, arith}
+-- What is written into a map of names. Assumes nothing.
+use Rattle.std.proofs.Common.{◌≡◌, ℕ, ◌≤◌, Bool, List, map, length, Some, None, Option, Bor, refl, sym, ap, subst, ◌∙◌}
+use Rattle.std.proofs.lemmas.Bool.{cond-true, cond-false, false_from_ne_true}
+use Rattle.std.proofs.lemmas.Map.Made.{lookup-map_values, keys_of-map_values}
+use Rattle.std.proofs.lemmas.Map.Text.{btree_map_updates_str}
 use Rattle.std.proofs.lemmas.Slice.Eq.{bytes_eq-Decides}
-use Rattle.std.proofs.lemmas.Bool.{le-leb, lt-leb, lt-ltb, le-ltb, and_from, and_left, and_right, cond-true, cond-false, cond_both, cases_Bool, cases_order}
-use Rattle.std.proofs.lemmas.List.{get_or-set_same, get_or-set_other, get_or-map}
-use Rattle.std.specs.Str.{bytes_eq}
-use Rattle.std.specs.declared.alloc.Global.{Global}
-use Rattle.kallsyms.specs.Fields.{fields, field}
+use Rattle.std.specs.BTreeMap.{keys, is_at, UpdatesBy}
+use Rattle.std.specs.Cmp.Lexicographic.{slice_cmp}
+use Rattle.std.specs.Map.{lookup, keys_of}
+use Rattle.std.specs.Option.{option_map, IfSome}
+use Rattle.std.specs.Ordering.{nat_cmp}
 use Rattle.kallsyms.specs.Address.{address}
+use Rattle.kallsyms.specs.Fields.{fields, field}
 use Rattle.lookup.specs.After.{after}
-use Rattle.lookup.specs.Noted.{noted, name_at}
+use Rattle.lookup.specs.LookedUp.{Sightings, sighting_of}
+use Rattle.lookup.specs.Noted.{Notes}
 use Rattle.lookup.specs.declared.sighting.Sighting.{Sighting}
 use Rattle.lookup.specs.declared.sighting.Sighting.TheVariants.{Unlisted}
 
--- two names that differ are told apart
-apart : (xs ys : List ℕ) → (xs ≡ ys → ⊥) → bytes_eq xs ys ≡ false
-apart xs ys h = ⊎_elim (λ t. absurd (h ((bytes_eq-Decides xs ys).0 t))) (λ f. f) (cases_Bool (bytes_eq xs ys))
+-- the line's number and address, written after what was said of its name, are noted
+pub notes_from_update : (n : ℕ) (l name : List ℕ) (s : Sighting) (old new : Sightings)
+    → 3 ≤ length (fields 0 l)
+    → name ≡ (field 2 l).bytes
+    → sighting_of old name ≡ Some s
+    → keys new ≡ keys old
+    → UpdatesBy (λ x y. slice_cmp nat_cmp x.now y.now) (λ k. slice_cmp nat_cmp name k.now) old new (Some (after n (address (field 0 l).bytes) s))
+    → Notes n l old new
+notes_from_update n l name s old new three is was same updates =
+    let w = Some (after n (address (field 0 l).bytes) s) in
+    let now = btree_map_updates_str name old new w updates in
+    record {
+      names = same;
+      listed = λ q h.
+          let e : name ≡ q = is ∙ h.1 in
+          now q ∙ cond-true _ _ _ ((bytes_eq-Decides name q).1 e) ∙ ap (option_map (after n (address (field 0 l).bytes))) (sym was ∙ ap (sighting_of old) e);
+      others = λ q no. now q ∙ cond-false _ _ _ (false_from_ne_true _ (λ t. no (three, sym is ∙ (bytes_eq-Decides name q).0 t)));
+    }
 
-module _ (n : ℕ) (l name : List ℕ) (s : Sighting) where
-  pub noted_listed : 3 ≤ length (fields 0 l) → (field 2 l).bytes ≡ name → noted n l name s ≡ after n (address (field 0 l).bytes) s
-  noted_listed three same =
-      cond-true _ _ _ (and_from (leb 3 (length (fields 0 l))) (bytes_eq (field 2 l).bytes name) (le-leb 3 _ three) ((bytes_eq-Decides (field 2 l).bytes name).1 same))
+unlisted : (o : Option Sighting) → IfSome (option_map (λ _. Unlisted) o) (λ s. s ≡ Unlisted)
+unlisted None = tt
+unlisted (Some s) = refl
 
-  pub noted_other : ((field 2 l).bytes ≡ name → ⊥) → noted n l name s ≡ s
-  noted_other other = cond-false _ _ _ (and_right (leb 3 (length (fields 0 l))) (bytes_eq (field 2 l).bytes name) (apart (field 2 l).bytes name other))
-
-  pub noted_short : length (fields 0 l) < 3 → noted n l name s ≡ s
-  noted_short few = cond-false _ _ _ (and_left (leb 3 (length (fields 0 l))) (bytes_eq (field 2 l).bytes name) (lt-leb 3 _ few))
-
--- the bytes of the name that was read
-pub name_read : (names : List (String Global)) (i : ℕ) (x : String Global) → i < length names → x ≡ get_or names i x → name_at names i ≡ string_bytes x
-name_read names i x lt e = get_or-map string_bytes names i x [] lt ∙ ap string_bytes (sym e)
-
-module _ (i : ℕ) (old rows : List Sighting) (new : ℕ → Sighting) (before : (k : ℕ) → get_or rows k Unlisted ≡ cond (ltb k i) (new k) (get_or old k Unlisted)) where
-  -- the row that is next is as it was
-  pub row_same : get_or rows i Unlisted ≡ get_or old i Unlisted
-  row_same = before i ∙ cond-false _ _ _ (le-ltb i i (omega arith))
-
-  -- one row more is set
-  pub row_more : (s : Sighting) → i < length rows → s ≡ new i → (k : ℕ) → get_or (set rows i s) k Unlisted ≡ cond (ltb k (i + 1)) (new k) (get_or old k Unlisted)
-  row_more s lt e k =
-      let here : k ≡ i → get_or (set rows i s) k Unlisted ≡ cond (ltb k (i + 1)) (new k) (get_or old k Unlisted) =
-      λ z. ap (λ j. get_or (set rows i s) j Unlisted) z ∙ get_or-set_same rows i s Unlisted lt ∙ e ∙ ap new (sym z) ∙ sym (cond-true _ _ _ (lt-ltb k (i + 1) (omega arith))) in
-      let below : k < i → get_or (set rows i s) k Unlisted ≡ cond (ltb k (i + 1)) (new k) (get_or old k Unlisted) =
-      λ z. let ne : k ≢ i = omega arith in get_or-set_other rows i k s Unlisted ne ∙ before k ∙ cond-true _ _ _ (lt-ltb k i z) ∙ sym (cond-true _ _ _ (lt-ltb k (i + 1) (omega arith))) in
-      let above : i < k → get_or (set rows i s) k Unlisted ≡ cond (ltb k (i + 1)) (new k) (get_or old k Unlisted) =
-      λ z. let ne : k ≢ i = omega arith in get_or-set_other rows i k s Unlisted ne ∙ before k ∙ cond-false _ _ _ (le-ltb k i (omega arith)) ∙ sym (cond-false _ _ _ (le-ltb k (i + 1) (omega arith))) in
-      ⊎_elim here (⊎_elim below above) (cases_order k i)
-
--- a row that a line says nothing of
-pub row_kept : (t : Bool) (s r : Sighting) → s ≡ r → r ≡ cond t s r
-row_kept t s r e = cond_both t s r (λ x. r ≡ x) (λ _. sym e) (λ _. refl)
-
--- rows that are all unlisted
-pub all_unlisted : (n k : ℕ) → get_or (replicate n Unlisted) k Unlisted ≡ Unlisted
-all_unlisted zero k = refl
-all_unlisted (suc n) zero = refl
-all_unlisted (suc n) (suc k) = all_unlisted n k
+-- where each value was made so, the names stay, and every one is unlisted
+pub all_unlisted : (old new : Sightings) → new.entries ≡ map (λ e. (e.0, Unlisted)) old.entries → (keys new ≡ keys old) × ((name : List ℕ) → IfSome (sighting_of new name) (λ s. s ≡ Unlisted))
+all_unlisted old new e =
+    let says : (name : List ℕ) → IfSome (sighting_of new name) (λ s. s ≡ Unlisted) =
+    λ name.
+    let test : Bor (List ℕ) → Bool = is_at (λ k. slice_cmp nat_cmp name k.now) in
+    subst (λ o. IfSome o (λ s. s ≡ Unlisted)) (sym (ap (lookup test) e ∙ lookup-map_values (λ _. Unlisted) test old.entries)) (unlisted (lookup test old.entries)) in
+    (ap keys_of e ∙ keys_of-map_values (λ _. Unlisted) old.entries, says)

@@ -1,13 +1,17 @@
 -- What lines say of a name, with one line more. Assumes nothing.
-use Rattle.std.proofs.Common.{◌≡◌, ℕ, ◌<◌, ◌≤◌, true, false, eqb, leb, List, [], ◌∷◌, ◌++◌, length, Some, None, Option, sym, refl, ap, ◌∙◌, subst, inl, inr, ⊎_elim, arith, length-append}
+use Rattle.std.proofs.Common.{◌≡◌, ℕ, ◌<◌, ◌≤◌, eqb, List, [], ◌∷◌, ◌++◌, length, Some, None, Option, sym, refl, ap, ◌∙◌, subst, inl, inr, ◌⊎◌, ⊎_elim, arith, length-append}
 use Rattle.std.proofs.lemmas.Slice.Eq.{bytes_eq-Decides}
-use Rattle.std.proofs.lemmas.Bool.{leb-true, le-leb, eqb-true, eqb-false, and_parts, and_from, both_ways, cond_both, cases_lt}
+use Rattle.std.proofs.lemmas.Bool.{eqb-true, eqb-false, cond_both, cases_lt, cases_Bool}
+use Rattle.std.proofs.lemmas.Bool.Decides.{not_from_Decides}
+use Rattle.std.proofs.lemmas.Option.{IfSome_then}
 use Rattle.std.proofs.lemmas.List.{append_assoc, get_or_append_left, get_or_at}
+use Rattle.std.specs.Option.{IfSome, option_map}
 use Rattle.std.specs.Str.{bytes_eq}
 use Rattle.kallsyms.specs.Fields.{fields, field}
 use Rattle.kallsyms.specs.Address.{address}
 use Rattle.lookup.specs.After.{after}
-use Rattle.lookup.specs.Noted.{lists, noted}
+use Rattle.lookup.specs.LookedUp.{Sightings, sighting_of}
+use Rattle.lookup.specs.Noted.{Notes}
 use Rattle.kallsyms.specs.Line.{number_after, count_of}
 use Rattle.lookup.specs.Says.{Lists, Gives, Before, ZeroOr, Says}
 use Rattle.lookup.specs.declared.sighting.Sighting.{Sighting}
@@ -150,22 +154,6 @@ module _ (xs : List (List ℕ)) (l name : List ℕ) where
     more (Some a) e (TwoAddresses n x m z) y = stays (TwoAddresses n x m z) (λ _. tt) y
     more (Some a) e (Unreadable n) y = stays (Unreadable n) (λ _. tt) y
 
-  listed : lists name l ≡ true → Lists name l
-  listed t =
-      let parts = and_parts (leb 3 (length (fields 0 l))) (bytes_eq (field 2 l).bytes name) t in
-      (leb-true 3 _ parts.0, (bytes_eq-Decides (field 2 l).bytes name).0 parts.1)
-
-  unlisted : lists name l ≡ false → Lists name l → ⊥
-  unlisted f h =
-      both_ways _ f (and_from (leb 3 (length (fields 0 l))) (bytes_eq (field 2 l).bytes name) (le-leb 3 _ h.0) ((bytes_eq-Decides (field 2 l).bytes name).1 h.1))
-
-  -- what is noted of one line more is what the lines then say
-  pub noted_says : (s : Sighting) → Says xs name s → Says (xs ++ l ∷ []) name (noted (number_after (length xs)) l name s)
-  noted_says s y =
-      cond_both (lists name l) _ _ (Says (xs ++ l ∷ []) name)
-      (λ t. more (listed t) (address (field 0 l).bytes) refl s y)
-      (λ f. stays s (λ h. absurd (unlisted f h)) y)
-
 -- one line more is read and counted
 pub read_more : (xs ls ls' whole : List (List ℕ)) (l : List ℕ) → xs ++ ls ≡ whole → ls ≡ l ∷ ls' → (xs ++ l ∷ []) ++ ls' ≡ whole
 read_more xs ls ls' whole l e f = append_assoc xs (l ∷ []) ls' ∙ ap (λ r. xs ++ r) (sym f) ∙ e
@@ -176,8 +164,24 @@ count_more xs l n m e f = let len = length-append xs (l ∷ []) in omega arith
 pub count_number : (xs : List (List ℕ)) (n m : ℕ) → n ≡ count_of xs → m ≡ number_after n → m ≡ number_after (length xs)
 count_number xs n m e f = omega arith
 
--- what was noted of the line in the buffer is said by the lines with it
-pub line_says : (xs : List (List ℕ)) (l b name : List ℕ) (n : ℕ) (s t : Sighting) → b ≡ l → n ≡ number_after (length xs) → t ≡ noted n b name s → Says xs name s → Says (xs ++ l ∷ []) name t
-line_says xs l b name n s t e f g y =
-    let same : noted (number_after (length xs)) l name s ≡ t = sym (g ∙ ap (λ m. noted m b name s) f ∙ ap (λ r. noted (number_after (length xs)) r name s) e) in
-    subst (Says (xs ++ l ∷ []) name) same (noted_says xs l name s y)
+-- a line lists a name, or does not
+cases_Lists : (name l : List ℕ) → Lists name l ⊎ (Lists name l → ⊥)
+cases_Lists name l =
+    let same = bytes_eq-Decides (field 2 l).bytes name in
+    ⊎_elim
+    (λ few. inr (λ h. let three = h.0 in absurd (omega arith)))
+    (λ three. ⊎_elim (λ t. inl (three, same.0 t)) (λ f. inr (λ h. not_from_Decides _ same f h.1)) (cases_Bool (bytes_eq (field 2 l).bytes name)))
+    (cases_lt (length (fields 0 l)) 3)
+
+IfSome-map : {X : Type 0} (P Q : X → Type 0) (f : X → X) (o : Option X) → IfSome o P → ((x : X) → P x → Q (f x)) → IfSome (option_map f o) Q
+IfSome-map P Q f None h g = tt
+IfSome-map P Q f (Some x) h g = g x h
+
+-- what a map holds of each name is what the lines with the one that was noted say
+pub notes_say : (xs : List (List ℕ)) (l : List ℕ) (old new : Sightings) → Notes (number_after (length xs)) l old new → ((name : List ℕ) → IfSome (sighting_of old name) (Says xs name)) → (name : List ℕ) → IfSome (sighting_of new name) (Says (xs ++ l ∷ []) name)
+notes_say xs l old new notes says name =
+    let P : Option Sighting → Type 0 = λ o. IfSome o (Says (xs ++ l ∷ []) name) in
+    ⊎_elim
+    (λ h. subst P (sym (notes.listed name h)) (IfSome-map (Says xs name) _ (after (number_after (length xs)) (address (field 0 l).bytes)) (sighting_of old name) (says name) (more xs l name h (address (field 0 l).bytes) refl)))
+    (λ no. subst P (sym (notes.others name no)) (IfSome_then (sighting_of old name) (says name) (λ s. stays xs l name s (λ h. absurd (no h)))))
+    (cases_Lists name l)

@@ -1,5 +1,5 @@
 pub mod After
-pub mod Noted
 pub mod Says
 pub mod Laws
 pub mod LookedUp
+pub mod Noted

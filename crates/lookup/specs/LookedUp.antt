@@ -1,18 +1,27 @@
--- What a lookup leaves in its rows and answers. Assumes nothing.
-use Rattle.std.specs.Prelude.{◌≡◌, ℕ, ◌<◌, ◌≤◌, List, length, String, slice_index_or}
-use Rattle.std.specs.declared.alloc.Global.{Global}
+-- What a lookup leaves in a map of names and answers. Assumes nothing.
+use Rattle.std.specs.Prelude.{◌≡◌, ℕ, List, Option, IfSome}
+use Rattle.std.specs.Borrow.{Bor}
+use Rattle.std.specs.BTreeMap.{BTreeMap, keys, get_by}
+use Rattle.std.specs.Cmp.Lexicographic.{slice_cmp}
+use Rattle.std.specs.Ordering.{nat_cmp}
 use Rattle.kallsyms.specs.Line.{count_of}
 use Rattle.kallsyms.specs.declared.ends.End.{End}
-use Rattle.lookup.specs.Noted.{name_at}
 use Rattle.lookup.specs.Says.{Says}
 use Rattle.lookup.specs.declared.scan.Reading.{Reading}
 use Rattle.lookup.specs.declared.sighting.Sighting.{Sighting}
-use Rattle.lookup.specs.declared.sighting.Sighting.TheVariants.{Unlisted}
 
--- each row holds what the lines say of the name of the same index, a row without a name is unlisted,
+-- a map from the bytes of names to what is said of them
+abbrev pub Sightings : Type 0
+Sightings = BTreeMap (Bor (List ℕ)) Sighting
+
+-- what a map says of the name with these bytes
+abbrev pub sighting_of : Sightings → List ℕ → Option Sighting
+sighting_of m name = get_by (λ k. slice_cmp nat_cmp name k.now) m
+
+-- the map has the names that it had, with what the lines say of each,
 -- and the answer is how many lines there are, and their end
-pub record LookedUp (names : List (String Global)) (ls : List (List ℕ)) (e : End) (rows : List Sighting) (reading : Reading) : Type 0 where
-  pub says : (k : ℕ) → k < length names → k < length rows → Says ls (name_at names k) (slice_index_or rows k Unlisted)
-  pub spare : (k : ℕ) → length names ≤ k → slice_index_or rows k Unlisted ≡ Unlisted
+pub record LookedUp (ls : List (List ℕ)) (e : End) (old new : Sightings) (reading : Reading) : Type 0 where
+  pub names : keys new ≡ keys old
+  pub says : (name : List ℕ) → IfSome (sighting_of new name) (Says ls name)
   pub count : reading.lines ≡ count_of ls
   pub end : reading.end ≡ e

@@ -1,25 +1,16 @@
-use Rattle.std.proofs.Common.{◌≡◌, ◌<◌, length, get_or, sym, ◌∙◌, arith}
-use Rattle.lookup.specs.Noted.{noted, name_at}
-use Rattle.lookup.specs.declared.sighting.Sighting.TheVariants.{Unlisted}
-use Rattle.lookup.proofs.Noting.{noted_short, name_read, row_kept, row_same, row_more}
+use Rattle.std.proofs.Common.{◌≡◌, rules}
+use Rattle.kallsyms.specs.Address.{address}
+use Rattle.kallsyms.specs.Fields.{field}
+use Rattle.lookup.specs.After.{after}
+use Rattle.lookup.proofs.Noting.{notes_from_update}
 use Rattle.lookup.proofs.scan.note_line.Goals as goal
 
-pub returns-in_default : goal.returns-in_default
-returns-in_default c k =
-    row_kept _ _ _ (noted_short c.args.line_number c.args.line.now (name_at c.args.names.now k) (get_or c.args.sightings.now k Unlisted) c.in_default.ensures)
-
-pub loop-i-preserved : goal.loop-i-preserved
-loop-i-preserved c =
-    let names = c.args.names.now in
-    let old = c.args.sightings.now in
-    let rows = c.loop-i.sightings in
-    let i = c.loop-i.i in
-    let least = c.min-rows.ensures in
-    let taken = c.loop-i-test.true in
-    let in_names : i < length names = omega arith in
-    let in_rows : i < length rows = omega arith in
-    let line = c.in-Some.ensures.1 in
-    let name = c.as_bytes.ensures.value ∙ sym (name_read names i c.index-names-i.result in_names c.index-names-i.is) in
-    let row = row_same i old rows _ c.loop-i.invariant in
-    let now : c.noted.result ≡ noted c.args.line_number c.args.line.now (name_at names i) (get_or old i Unlisted) = cc in
-    row_more i old rows _ c.loop-i.invariant c.noted.result in_rows now
+pub returns-in-Some-get_mut : goal.returns-in-Some-get_mut
+returns-in-Some-get_mut c =
+    let shows = c.in-Some.ensures.2 in
+    let said = c.in-Some-get_mut.sighting.now in
+    let written = c.get_mut.follows.holds c.after.result in
+    let name : c.name.result.bytes.now ≡ (field 2 c.args.line.now).bytes = rw (c.name.ensures, ← c.in-Some.ensures.1) shows.name.1 in
+    let noted : c.after.result ≡ after c.args.line_number (address (field 0 c.args.line.now).bytes) said = cc (shows.address.1, c.address.ensures, c.in-Some.ensures.1) in
+    notes_from_update c.args.line_number c.args.line.now c.name.result.bytes.now said c.args.sightings.now (c.get_mut.follows.lender c.after.result)
+    c.in-Some.ensures.0 name (cc c.in-Some-get_mut.ensures.value) written.1 (rw (← noted) (written.3 (search rules)))

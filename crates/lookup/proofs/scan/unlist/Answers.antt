@@ -1,0 +1,11 @@
+use Rattle.std.proofs.Common.{rules}
+use Rattle.std.proofs.lemmas.Map.Made.{map_same_pairs}
+use Rattle.lookup.specs.declared.sighting.Sighting.TheVariants.{Unlisted}
+use Rattle.lookup.proofs.Noting.{all_unlisted}
+use Rattle.lookup.proofs.scan.unlist.Goals as goal
+
+pub returns : goal.returns
+returns c =
+    let entries = map_same_pairs _ (λ _. Unlisted) _ (λ k v b w f' t. search rules) c.args.sightings.now.entries c.retain.new.self.entries c.retain.ensures.filtered in
+    let cleared = all_unlisted c.args.sightings.now c.retain.new.self entries in
+    record { names = cleared.0; unlisted = cleared.1 }
