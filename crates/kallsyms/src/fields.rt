@@ -50,7 +50,7 @@ fn field_after(line: &[u8], from: usize) -> Option<Field<'_>>
 impl<'a> Fields<'a> {
     /// The first three fields of the line, or none if it has fewer.
     pub fn of(line: &'a [u8]) -> Option<Fields<'a>>
-        ensures { MatchOption result (length (fields_from 0 line.now) < 3) (λ f. f.line.now ≡ line.now) }
+        ensures { MatchOption result (length (fields_from 0 line.now) < 3) (λ f. (3 ≤ length (fields_from 0 line.now)) × (f.line.now ≡ line.now)) }
     {
         let address = field_after(line, 0)?;
         let letter = field_after(line, address.start + address.bytes.len())?;

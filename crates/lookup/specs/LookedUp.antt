@@ -5,7 +5,7 @@ use Rattle.std.specs.BTreeMap.{BTreeMap, keys, get_by}
 use Rattle.std.specs.Cmp.Lexicographic.{slice_cmp}
 use Rattle.std.specs.Ordering.{nat_cmp}
 use Rattle.kallsyms.specs.Line.{count_of}
-use Rattle.kallsyms.specs.declared.ends.End.{End}
+use Rattle.kallsyms.specs.Ends.{End}
 use Rattle.lookup.specs.Says.{Says}
 use Rattle.lookup.specs.declared.scan.Reading.{Reading}
 use Rattle.lookup.specs.declared.sighting.Sighting.{Sighting}

@@ -51,15 +51,16 @@ pub fn look_up<S: LineSource>(source: &mut S, sightings: &mut BTreeMap<&[u8], Si
 {
     unlist(sightings);
     let mut buffer = [0u8; LINE_LEN];
-    let mut count: u64 = 0;
-    'lines: loop {
+    let mut lines: u64 = 0;
+    let end = 'lines: loop {
         match source.next(&mut buffer) {
             Ok(Some(len)) => {
-                count = count.saturating_add(1);
-                note_line(sightings, count, &buffer[0..len]);
+                lines = lines.saturating_add(1);
+                note_line(sightings, lines, &buffer[..len]);
             }
-            Ok(None) => return Reading { lines: count, end: Ok(()) },
-            Err(fault) => return Reading { lines: count, end: Err(fault) },
+            Ok(None) => break 'lines Ok(()),
+            Err(fault) => break 'lines Err(fault),
         }
-    }
+    };
+    Reading { lines, end }
 }

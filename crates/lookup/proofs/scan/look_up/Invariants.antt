@@ -11,7 +11,7 @@ abbrev pub invariant-lines : goal.invariant-lines
 invariant-lines g l = record {
   read : List (List ℕ);
   whole : read ++ g.S.LineSource.lines l.source ≡ g.S.LineSource.lines l.initial.source;
-  counted : l.count ≡ count_of read;
+  counted : l.lines ≡ count_of read;
   names : keys l.sightings ≡ keys l.fn.sightings;
   says : (name : List ℕ) → IfSome (sighting_of l.sightings name) (Says read name);
   end : g.S.LineSource.end l.source ≡ g.S.LineSource.end l.initial.source;

@@ -7,10 +7,9 @@ use Rattle.lookup.proofs.scan.note_line.Goals as goal
 
 pub returns-in-Some-get_mut : goal.returns-in-Some-get_mut
 returns-in-Some-get_mut c =
-    let shows = c.in-Some.ensures.2 in
     let said = c.in-Some-get_mut.sighting.now in
     let written = c.get_mut.follows.holds c.after.result in
-    let name : c.name.result.bytes.now ≡ (field 2 c.args.line.now).bytes = rw (c.name.ensures, ← c.in-Some.ensures.1) shows.name.1 in
-    let noted : c.after.result ≡ after c.args.line_number (address (field 0 c.args.line.now).bytes) said = cc (shows.address.1, c.address.ensures, c.in-Some.ensures.1) in
+    let name : c.name.result.bytes.now ≡ (field 2 c.args.line.now).bytes = rw (← c.in-Some.ensures.1) c.name.ensures.shown.1 in
+    let noted : c.after.result ≡ after c.args.line_number (address (field 0 c.args.line.now).bytes) said = cc (c.address.ensures.shown.1, c.in-Some.ensures.1) in
     notes_from_update c.args.line_number c.args.line.now c.name.result.bytes.now said c.args.sightings.now (c.get_mut.follows.lender c.after.result)
     c.in-Some.ensures.0 name (cc c.in-Some-get_mut.ensures.value) written.1 (rw (← noted) (written.3 (search rules)))
