@@ -1,4 +1,3 @@
-pub mod Found
-pub mod Hex
 pub mod Texts
 pub mod Answers
+pub mod Tells

@@ -4,7 +4,7 @@ use Rattle.kallsyms.specs.declared.ends.Fault.{Fault}
 use Rattle.kallsyms.specs.declared.ends.Fault.TheVariants.{LineTooLong, ByteTooLarge}
 use Rattle.lookup.specs.declared.sighting.Sighting.{Sighting}
 use Rattle.lookup.specs.declared.sighting.Sighting.TheVariants.{Unlisted, OnlyZero, At, TwoAddresses, Unreadable}
-use Rattle.ksyms.specs.Hex.{hex_text}
+use Rattle.texts.specs.Hex.{hex_text}
 
 -- what a list says of a name
 abbrev pub told_text : List ℕ → Sighting → List ℕ

@@ -1,7 +1,7 @@
 // What the tool answers, as text.
-ghost use Rattle.std.specs.Prelude.{◌≡◌, ◌++◌, map, length, IfOk, string_bytes, OnOk};
-ghost use Rattle.ksyms.specs.Answers.{line_of, end_lines, told_lines, answer_text, Answers};
-ghost use Rattle.ksyms.specs.Texts.{told_text};
+ghost use Rattle.std.specs.Prelude.{◌≡◌, ◌++◌, IfOk, string_bytes, OnOk};
+ghost use Rattle.ksyms.specs.Answers.{end_lines, told_lines, answer_text, Answers};
+ghost use Rattle.ksyms.specs.Tells.{HasNames, Tells};
 
 use crate::summary::{Broken, Summary, Told, found};
 use kallsyms::ends::End;
@@ -9,6 +9,8 @@ use kallsyms::text::Text;
 use lookup::scan::{Reading, look_up};
 use lookup::sighting::Sighting;
 use std::alloc::{AllocError, Global};
+use std::collections::BTreeMap;
+use std::fmt::Write;
 
 // The line for a list that is broken, or nothing.
 fn end_lines(heap: Global, end: End) -> Result<String, AllocError>
@@ -23,50 +25,59 @@ fn end_lines(heap: Global, end: End) -> Result<String, AllocError>
     }
 }
 
-// The line for one name.
-fn told_line(heap: Global, name: &str, sighting: Sighting) -> Result<String, AllocError>
-    ensures { IfOk result (λ s. string_bytes s ≡ line_of (told_text name.now sighting)) }
+// A map that has each of the names.
+fn asked<'a>(heap: Global, names: &'a [String]) -> Result<BTreeMap<&'a [u8], Sighting>, AllocError>
+    ensures { IfOk result (λ m. HasNames names.now m) }
 {
-    let told = Told { name, sighting };
-    format!(in heap; "{told}\n")
+    let mut sightings = BTreeMap::new(heap);
+    for name in names {
+        sightings.insert(name.as_bytes(), Sighting::Unlisted)?;
+    }
+    Ok(sightings)
+}
+
+// What a map says of each of the names, in their order.
+fn tolds<'a>(
+    heap: Global,
+    names: &'a [String],
+    sightings: &BTreeMap<&[u8], Sighting>,
+) -> Result<Vec<Told<'a>>, AllocError>
+    requires { HasNames names.now sightings.now }
+    ensures { IfOk result (λ v. Tells names.now sightings.now v.items) }
+{
+    let mut tolds = Vec::new(heap);
+    for name in names {
+        let sighting = sightings[name.as_bytes()];
+        tolds.push(Told {
+            name: name.as_str(),
+            sighting,
+        })?;
+    }
+    Ok(tolds)
 }
 
 // Adds the line for each name to a text.
-fn add_names(
-    heap: Global,
-    text: &mut String,
-    names: &[String],
-    sightings: &[Sighting],
-) -> Result<(), AllocError>
-    requires { length sightings.now ≡ length names.now }
-    ensures { OnOk result (string_bytes text.new ≡ string_bytes text.old ++ told_lines (map string_bytes names.now) sightings.now) }
+fn add_names(text: &mut String, tolds: &[Told]) -> Result<(), AllocError>
+    ensures { OnOk result (string_bytes text.new ≡ string_bytes text.old ++ told_lines tolds.now) }
 {
-    for (i, name) in names.iter().enumerate() {
-        let line = told_line(heap, name.as_str(), sightings[i])?;
-        text.push_str(line.as_str())?;
+    for told in tolds {
+        writeln!(text, "{told}")?;
     }
     Ok(())
 }
 
 // What is told of the names, as text.
-fn answer_text(
-    heap: Global,
-    names: &[String],
-    sightings: &[Sighting],
-    reading: Reading,
-) -> Result<String, AllocError>
-    requires { length sightings.now ≡ length names.now }
-    ensures { IfOk result (λ s. string_bytes s ≡ answer_text names.now sightings.now reading.lines reading.end) }
+fn answer_text(heap: Global, tolds: &[Told], reading: Reading) -> Result<String, AllocError>
+    ensures { IfOk result (λ s. string_bytes s ≡ answer_text tolds.now reading.lines reading.end) }
 {
     let mut text = end_lines(heap, reading.end)?;
-    add_names(heap, &mut text, names, sightings)?;
+    add_names(&mut text, tolds)?;
     let summary = Summary {
         lines: reading.lines,
-        found: found(sightings),
-        asked: names.len(),
+        found: found(tolds),
+        asked: tolds.len(),
     };
-    let last = format!(in heap; "{summary}\n")?;
-    text.push_str(last.as_str())?;
+    writeln!(text, "{summary}")?;
     Ok(text)
 }
 
@@ -74,8 +85,8 @@ fn answer_text(
 pub fn answer(heap: Global, bytes: &[u8], names: &[String]) -> Result<String, AllocError>
     ensures { IfOk result (λ s. Answers bytes.now names.now (string_bytes s)) }
 {
-    let mut sightings = vec![in heap; Sighting::Unlisted; names.len()]?;
-    let mut text = Text::new(bytes);
-    let reading = look_up(&mut text, names, &mut sightings);
-    answer_text(heap, names, &sightings, reading)
+    let mut sightings = asked(heap, names)?;
+    let reading = look_up(&mut Text::new(bytes), &mut sightings);
+    let tolds = tolds(heap, names, &sightings)?;
+    answer_text(heap, &tolds, reading)
 }

@@ -2,7 +2,6 @@
 #![tactic(auto)]
 
 mod answer;
-mod hex;
 mod request;
 mod summary;
 

@@ -1,6 +1,6 @@
 // What a command line asks.
-ghost use Rattle.std.specs.Prelude.{◌≡◌, ◌<◌, ◌≤◌, length, drop, MatchOption};
-ghost use Rattle.lookup.specs.Noted.{name_at};
+ghost use Rattle.std.specs.Prelude.{◌≡◌, ◌<◌, ◌≤◌, length, drop, string_bytes, MatchOption, slice_get};
+ghost use Rattle.std.specs.Option.{option_map};
 
 /// A list, by its path, and the names to look up in it.
 #[derive(Clone, Copy)]
@@ -14,14 +14,14 @@ pub struct Request<'a> {
 impl<'a> Request<'a> {
     /// The words of a command line, the program's own name first; none if a list or a name is missing.
     pub fn of(words: &'a [String]) -> Option<Request<'a>>
-        ensures { MatchOption result (length words.now < 3) (λ q. (3 ≤ length words.now) × (q.list.now ≡ name_at words.now 1) × (q.names.now ≡ drop 2 words.now)) }
+        ensures { MatchOption result (length words.now < 3) (λ q. (3 ≤ length words.now) × (option_map string_bytes (slice_get words.now 1) ≡ Some q.list.now) × (q.names.now ≡ drop 2 words.now)) }
     {
-        if words.len() < 3 {
-            return None;
+        match words {
+            [_, list, names @ ..] if !names.is_empty() => Some(Request {
+                list: list.as_str(),
+                names,
+            }),
+            _ => None,
         }
-        Some(Request {
-            list: words[1].as_str(),
-            names: &words[2..words.len()],
-        })
     }
 }

@@ -1,12 +1,12 @@
 // What is printed for people.
 ghost use Rattle.std.specs.Prelude.{◌≡◌, Some};
-ghost use Rattle.ksyms.specs.Found.{found_in};
+ghost use Rattle.ksyms.specs.Answers.{found_in};
 ghost use Rattle.ksyms.specs.Texts.{told_text, broken_text, summary_text};
 
-use crate::hex::Hex;
 use kallsyms::ends::Fault;
 use lookup::sighting::Sighting;
 use std::fmt;
+use texts::hex::Hex;
 
 /// What a list says of a name.
 #[derive(Clone, Copy)]
@@ -104,14 +104,8 @@ impl fmt::Display for Summary {
 }
 
 /// How many of the names have one nonzero address.
-pub fn found(sightings: &[Sighting]) -> usize
-    ensures { result ≡ found_in sightings.now }
+pub fn found(tolds: &[Told]) -> usize
+    ensures { result ≡ found_in tolds.now }
 {
-    let mut n = 0;
-    for sighting in sightings {
-        if sighting.is_found() {
-            n += 1;
-        }
-    }
-    n
+    tolds.iter().filter(|told| told.sighting.is_found()).count()
 }

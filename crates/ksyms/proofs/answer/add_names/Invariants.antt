@@ -1,8 +1,7 @@
-use Rattle.std.proofs.Common.{◌≡◌, ◌++◌, map, drop, string_bytes}
+use Rattle.std.proofs.Common.{◌≡◌, ◌++◌, take, string_bytes}
 use Rattle.ksyms.specs.Answers.{told_lines}
 use Rattle.ksyms.proofs.answer.add_names.Given as goal
 
-abbrev pub invariant-loop-i : goal.invariant-loop-i
-invariant-loop-i l =
-    string_bytes l.text ++ told_lines (drop l.i (map string_bytes l.names)) (drop l.i l.sightings)
-    ≡ string_bytes l.initial.text ++ told_lines (map string_bytes l.names) l.sightings
+-- the lines for the names so far are added
+abbrev pub invariant-loop-told : goal.invariant-loop-told
+invariant-loop-told l = string_bytes l.text ≡ string_bytes l.fn.text ++ told_lines (take l.told-index l.tolds)

@@ -1,0 +1,7 @@
+use Rattle.std.proofs.Common.{take}
+use Rattle.ksyms.specs.Tells.{Tells}
+use Rattle.ksyms.proofs.answer.tolds.Given as goal
+
+-- the names so far are told
+abbrev pub invariant-loop-name : goal.invariant-loop-name
+invariant-loop-name l = Tells (take l.name-index l.names) l.sightings l.tolds.items
