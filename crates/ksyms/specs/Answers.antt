@@ -1,11 +1,10 @@
 -- What the tool writes for a list and names. Assumes nothing.
-use Rattle.std.specs.Prelude.{◌≡◌, ℕ, List, [], ◌∷◌, ◌++◌, map, length, All, count_by, string_bytes, String}
+use Rattle.std.specs.Prelude.{◌≡◌, ℕ, List, [], ◌∷◌, ◌++◌, map, length, All, count_by, string_bytes, String, Ok, Err}
 use Rattle.std.specs.List.{flat_map}
 use Rattle.std.specs.declared.alloc.Global.{Global}
 use Rattle.kallsyms.specs.Line.{count_of}
 use Rattle.kallsyms.specs.Cut.{lines_from, end_from}
-use Rattle.kallsyms.specs.declared.ends.End.{End}
-use Rattle.kallsyms.specs.declared.ends.End.TheVariants.{Clean, Broken}
+use Rattle.kallsyms.specs.Ends.{End}
 use Rattle.lookup.specs.After.{is_found}
 use Rattle.lookup.specs.Says.{Says}
 use Rattle.ksyms.specs.Texts.{told_text, broken_text, summary_text}
@@ -17,8 +16,8 @@ line_of t = t ++ 10 ∷ []
 
 -- a line for a list that is broken
 abbrev pub end_lines : End → List ℕ
-end_lines Clean = []
-end_lines (Broken f) = line_of (broken_text f)
+end_lines (Ok tt) = []
+end_lines (Err f) = line_of (broken_text f)
 
 -- a line for each name
 abbrev pub told_lines : List Told → List ℕ

@@ -1,7 +1,7 @@
 -- The texts that are printed for people. Assumes nothing.
 use Rattle.std.specs.Prelude.{ℕ, List, ◌++◌, codes, decimal}
 use Rattle.kallsyms.specs.declared.ends.Fault.{Fault}
-use Rattle.kallsyms.specs.declared.ends.Fault.TheVariants.{LineTooLong, ByteTooLarge}
+use Rattle.kallsyms.specs.Faults.{fault_text}
 use Rattle.lookup.specs.declared.sighting.Sighting.{Sighting}
 use Rattle.lookup.specs.declared.sighting.Sighting.TheVariants.{Unlisted, OnlyZero, At, TwoAddresses, Unreadable}
 use Rattle.texts.specs.Hex.{hex_text}
@@ -17,10 +17,7 @@ told_text name (Unreadable line) = name ++ (codes ": the address on line " ++ (d
 
 -- what is said of a list that is broken
 abbrev pub broken_text : Fault → List ℕ
-broken_text (LineTooLong line) =
-    codes "the list is broken: line " ++ (decimal line ++ codes " has more than 1024 bytes; only the lines before it were read")
-broken_text (ByteTooLarge line) =
-    codes "the list is broken: line " ++ (decimal line ++ codes " has a byte of 128 or more; only the lines before it were read")
+broken_text f = codes "the list is broken: " ++ (fault_text f ++ codes "; only the lines before it were read")
 
 -- what is said of a whole list: lines read, names found, names asked for
 abbrev pub summary_text : ℕ → ℕ → ℕ → List ℕ

@@ -3,7 +3,7 @@ ghost use Rattle.std.specs.Prelude.{◌≡◌, ◌++◌, IfOk, string_bytes, OnO
 ghost use Rattle.ksyms.specs.Answers.{end_lines, told_lines, answer_text, Answers};
 ghost use Rattle.ksyms.specs.Tells.{HasNames, Tells};
 
-use crate::summary::{Broken, Summary, Told, found};
+use crate::summary::{Summary, Told, found};
 use kallsyms::ends::End;
 use kallsyms::text::Text;
 use lookup::scan::{Reading, look_up};
@@ -17,10 +17,9 @@ fn end_lines(heap: Global, end: End) -> Result<String, AllocError>
     ensures { IfOk result (λ s. string_bytes s ≡ end_lines end) }
 {
     match end {
-        End::Clean => Ok(String::new(heap)),
-        End::Broken(fault) => {
-            let broken = Broken { fault };
-            format!(in heap; "{broken}\n")
+        Ok(()) => Ok(String::new(heap)),
+        Err(fault) => {
+            format!(in heap; "the list is broken: {fault}; only the lines before it were read\n")
         }
     }
 }

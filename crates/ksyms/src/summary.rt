@@ -1,9 +1,8 @@
 // What is printed for people.
 ghost use Rattle.std.specs.Prelude.{◌≡◌, Some};
 ghost use Rattle.ksyms.specs.Answers.{found_in};
-ghost use Rattle.ksyms.specs.Texts.{told_text, broken_text, summary_text};
+ghost use Rattle.ksyms.specs.Texts.{told_text, summary_text};
 
-use kallsyms::ends::Fault;
 use lookup::sighting::Sighting;
 use std::fmt;
 use texts::hex::Hex;
@@ -49,34 +48,6 @@ impl fmt::Display for Told<'_> {
                 f,
                 "{name}: the address on line {line} does not read"
             ),
-        }
-    }
-}
-
-/// A list that is broken.
-#[derive(Clone, Copy)]
-pub struct Broken {
-    /// What is wrong, and where.
-    pub fault: Fault,
-}
-
-impl fmt::Display for Broken {
-    ghost output = { λ b. Some (broken_text b.fault) };
-
-    fn fmt<W: fmt::Write>(&self, f: &mut fmt::Formatter<W>) -> fmt::Result {
-        match self.fault {
-            Fault::LineTooLong { line } => {
-                write!(
-                    f,
-                    "the list is broken: line {line} has more than 1024 bytes; only the lines before it were read"
-                )
-            }
-            Fault::ByteTooLarge { line } => {
-                write!(
-                    f,
-                    "the list is broken: line {line} has a byte of 128 or more; only the lines before it were read"
-                )
-            }
         }
     }
 }
