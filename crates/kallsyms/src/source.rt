@@ -17,11 +17,11 @@ pub trait LineSource {
     // How the source ends after them.
     ghost end: { Self → End };
 
-    // Each line that is to come has at most 1024 bytes, all below 128.
-    ghost good: { (s : Self) → GoodLines (lines s) };
-
     // The buffer and the length stand apart since a rule of the project fixes the buffer: 1,024 bytes of the caller's, and no heap.
     /// Puts the next line at the front of the buffer, with zeros after it, and answers its length; or none if every line was given, or the fault that ends the source.
     fn next(&mut self, buffer: &mut [u8; LINE_LEN]) -> Result<Option<usize>, Fault>
         ensures { Steps (lines self.old) (end self.old) buffer.old result (lines self.new) (end self.new) buffer.new };
+
+    // Each line that is to come has at most 1024 bytes, all below 128.
+    ghost good: { (s : Self) → GoodLines (lines s) };
 }
