@@ -10,7 +10,7 @@ not_zero : {x : ℕ} → 0 < x → Some x ≡ Some 0 → ⊥
 not_zero {x} pos e = let z : x ≡ 0 = cc in omega arith
 
 not_none : {x : ℕ} → None ≡ Some x → ⊥
-not_none e = let z : ◌≡◌ {A = ℕ} 0 1 = cc in omega arith
+not_none e = cc
 
 -- an address that is zero or x, and not zero, is x
 is_other : (x : ℕ) {y : ℕ} → 0 < y → ZeroOr x (Some y) → y ≡ x

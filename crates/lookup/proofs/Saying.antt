@@ -4,7 +4,7 @@ use Rattle.std.proofs.lemmas.Slice.Eq.{bytes_eq-Decides}
 use Rattle.std.proofs.lemmas.Bool.{eqb-true, eqb-false, cond_both, cases_lt, cases_Bool}
 use Rattle.std.proofs.lemmas.Bool.Decides.{not_from_Decides}
 use Rattle.std.proofs.lemmas.Option.{IfSome_then}
-use Rattle.std.proofs.lemmas.List.{append_assoc, get_or_append_left, get_or_at}
+use Rattle.std.proofs.lemmas.List.{get_or_append_left, get_or_at}
 use Rattle.std.specs.Option.{IfSome, option_map}
 use Rattle.std.specs.Str.{bytes_eq}
 use Rattle.kallsyms.specs.Fields.{fields, field}
@@ -12,7 +12,7 @@ use Rattle.kallsyms.specs.Address.{address}
 use Rattle.lookup.specs.After.{after}
 use Rattle.lookup.specs.LookedUp.{Sightings, sighting_of}
 use Rattle.lookup.specs.Noted.{Notes}
-use Rattle.kallsyms.specs.Line.{number_after, count_of}
+use Rattle.kallsyms.specs.Line.{number_after}
 use Rattle.lookup.specs.Says.{Lists, Gives, Before, ZeroOr, Says}
 use Rattle.lookup.specs.declared.sighting.Sighting.{Sighting}
 use Rattle.lookup.specs.declared.sighting.Sighting.TheVariants.{Unlisted, OnlyZero, At, TwoAddresses, Unreadable}
@@ -154,16 +154,6 @@ module _ (xs : List (List ℕ)) (l name : List ℕ) where
     more (Some a) e (TwoAddresses n x m z) y = stays (TwoAddresses n x m z) (λ _. tt) y
     more (Some a) e (Unreadable n) y = stays (Unreadable n) (λ _. tt) y
 
--- one line more is read and counted
-pub read_more : (xs ls ls' whole : List (List ℕ)) (l : List ℕ) → xs ++ ls ≡ whole → ls ≡ l ∷ ls' → (xs ++ l ∷ []) ++ ls' ≡ whole
-read_more xs ls ls' whole l e f = append_assoc xs (l ∷ []) ls' ∙ ap (λ r. xs ++ r) (sym f) ∙ e
-
-pub count_more : (xs : List (List ℕ)) (l : List ℕ) (n m : ℕ) → n ≡ count_of xs → m ≡ number_after n → m ≡ count_of (xs ++ l ∷ [])
-count_more xs l n m e f = let len = length-append xs (l ∷ []) in omega arith
-
-pub count_number : (xs : List (List ℕ)) (n m : ℕ) → n ≡ count_of xs → m ≡ number_after n → m ≡ number_after (length xs)
-count_number xs n m e f = omega arith
-
 -- a line lists a name, or does not
 cases_Lists : (name l : List ℕ) → Lists name l ⊎ (Lists name l → ⊥)
 cases_Lists name l =
@@ -177,11 +167,18 @@ IfSome-map : {X : Type 0} (P Q : X → Type 0) (f : X → X) (o : Option X) → 
 IfSome-map P Q f None h g = tt
 IfSome-map P Q f (Some x) h g = g x h
 
--- what a map holds of each name is what the lines with the one that was noted say
-pub notes_say : (xs : List (List ℕ)) (l : List ℕ) (old new : Sightings) → Notes (number_after (length xs)) l old new → ((name : List ℕ) → IfSome (sighting_of old name) (Says xs name)) → (name : List ℕ) → IfSome (sighting_of new name) (Says (xs ++ l ∷ []) name)
-notes_say xs l old new notes says name =
+-- what a map holds of each name is what the lines with the one in the buffer say, which was noted
+pub notes_say : (xs : List (List ℕ)) (l b : List ℕ) (n : ℕ) (old new : Sightings)
+    → b ≡ l
+    → n ≡ number_after (length xs)
+    → Notes n b old new
+    → ((name : List ℕ) → IfSome (sighting_of old name) (Says xs name))
+    → (name : List ℕ)
+    → IfSome (sighting_of new name) (Says (xs ++ l ∷ []) name)
+notes_say xs l b n old new here numbered notes says name =
     let P : Option Sighting → Type 0 = λ o. IfSome o (Says (xs ++ l ∷ []) name) in
+    let noted : Notes (number_after (length xs)) l old new = subst (λ m. Notes m l old new) numbered (subst (λ r. Notes n r old new) here notes) in
     ⊎_elim
-    (λ h. subst P (sym (notes.listed name h)) (IfSome-map (Says xs name) _ (after (number_after (length xs)) (address (field 0 l).bytes)) (sighting_of old name) (says name) (more xs l name h (address (field 0 l).bytes) refl)))
-    (λ no. subst P (sym (notes.others name no)) (IfSome_then (sighting_of old name) (says name) (λ s. stays xs l name s (λ h. absurd (no h)))))
+    (λ h. subst P (sym (noted.listed name h)) (IfSome-map (Says xs name) _ (after (number_after (length xs)) (address (field 0 l).bytes)) (sighting_of old name) (says name) (more xs l name h (address (field 0 l).bytes) refl)))
+    (λ no. subst P (sym (noted.others name no)) (IfSome_then (sighting_of old name) (says name) (λ s. stays xs l name s (λ h. absurd (no h)))))
     (cases_Lists name l)
