@@ -74,7 +74,7 @@ module _ (t : Tables) (ss : Symbols) where
 
   section_granted : (d : ℕ) (xs : List Extern) → Section t ss d xs → (o : Object) × (collect_section t ss (section_of t) ≡ Ok o)
   section_granted d xs s =
-      let n = (type_at t.types d).start in
+      let n = (type_at t.types d).parts.start in
       let f = found_func n (entries_of t d) xs s.declared s.room in
       let room = cond-true (leb (length xs) MAX_EXTERNS && room_for_func f.0 t) None _ (and_from (leb (length xs) MAX_EXTERNS) _ (le-leb _ _ s.few) f.2) in (
         made f.0 xs t,
@@ -96,7 +96,7 @@ module _ (t : Tables) (ss : Symbols) where
   module _ (o : Object) where
     section_passed : (c : Passed t ss o) → Section t ss c.section c.rows
     section_passed c =
-        let n = (type_at t.types c.section).start in
+        let n = (type_at t.types c.section).parts.start in
         let es = entries_of t c.section in
         record {
           found = c.found;

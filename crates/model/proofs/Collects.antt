@@ -163,9 +163,9 @@ pub record Passed (t : Tables) (ss : Symbols) (o : Object) : Type 0 where
   pub func : Bool
   pub rows : List Extern
   pub found : section_of t ≡ Ok (Some section)
-  pub has : has_func t.types (type_at t.types section).start (entries_of t section) ≡ Ok func
-  pub read : each (entry_read t ss) (type_at t.types section).start (entries_of t section) ≡ Ok rows
-  pub apart : duplicate [] (type_at t.types section).start rows ≡ None
+  pub has : has_func t.types (type_at t.types section).parts.start (entries_of t section) ≡ Ok func
+  pub read : each (entry_read t ss) (type_at t.types section).parts.start (entries_of t section) ≡ Ok rows
+  pub apart : duplicate [] (type_at t.types section).parts.start rows ≡ None
   pub few : leb (length rows) MAX_EXTERNS ≡ true
   pub room : room_for_func func t ≡ true
   pub is : made func rows t ≡ o
@@ -186,7 +186,7 @@ unless_is (Some e) x o h = absurd (err_not _ _ h)
 module _ (t : Tables) (ss : Symbols) (o : Object) where
   module _ (d : ℕ) (found : section_of t ≡ Ok (Some d)) where
     abbrev at : ℕ
-    at = (type_at t.types d).start
+    at = (type_at t.types d).parts.start
 
     rows_are : (func : Bool) → has_func t.types at (entries_of t d) ≡ Ok func
         → (r : Result (List Extern) Reason) → each (entry_read t ss) at (entries_of t d) ≡ r → collect_rows t at func r ≡ Ok o → Passed t ss o
@@ -274,7 +274,7 @@ module _ (t : Tables) (ss : Symbols) (o : Object) (c : Passed t ss o) where
   place_declared e i = let r = in_each (entry_read t ss) _ places c.rows c.read e i in entry_declared t ss e r.1 (entry_is t ss e r.0 r.1 r.2)
 
   -- a Func implies a placeholder
-  func_placed : (func : Bool) → has_func t.types (type_at t.types c.section).start places ≡ Ok func
+  func_placed : (func : Bool) → has_func t.types (type_at t.types c.section).parts.start places ≡ Ok func
       → (e : DataSecEntry) → In e places → is_func (type_at t.types e.btf_type) ≡ true → is_some (made func c.rows t).placeholder ≡ true
   func_placed true h e i f = refl
   func_placed false h e i f = absurd (true≢false (sym f ∙ no_func t.types _ places h e i))

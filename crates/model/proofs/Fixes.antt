@@ -15,12 +15,14 @@ use Rattle.model.specs.Lists.{In}
 use Rattle.model.specs.Names.{name_at}
 use Rattle.model.specs.Runs.{granted}
 use Rattle.model.specs.Runs.Step.{fixup}
+use Rattle.model.specs.Spans.{part, end_of, Outside}
 use Rattle.model.specs.StepLaws.{NotOf, Leaves, param_at, FixupLeavesOtherRows}
 use Rattle.model.specs.Tables.{Tables, MAX_EXTERNS, tables_fit}
 use Rattle.model.specs.declared.btf.BtfType.{BtfType}
 use Rattle.model.specs.declared.btf.BtfParam.{BtfParam}
 use Rattle.model.specs.declared.btf.DataSecEntry.{DataSecEntry}
 use Rattle.model.specs.declared.refusal.Reason.{Reason}
+use Rattle.model.specs.declared.rows.Span.{Span}
 use Rattle.model.proofs.Lookups.{some_not, some_same, ok_same}
 use Rattle.model.proofs.Tested.{collected_test, collected_is_tested}
 use Rattle.model.proofs.Grown.{Shape, shape_same, alike_length, alike_at, alike_set, Fits, fits_is, is_fit, Rewritten, rewritten_same, rewritten_on, rewritten_fits, rewritten_section, Longer, longer_section, longer_entries, longer_name, longer_at, Declared, declared_is, is_declared, longer_declared, section_is, span_inside, first_below, int_longer, int_below, int_fits}
@@ -121,7 +123,7 @@ module _ (p : Option ℕ) (int at i : ℕ) (t : Tables) where
       (λ e. func_by P p at i id_at t (λ q s. f q s e) (λ s. n s e)) v
 
 params_length : (name : ℕ) (proto : BtfType) (b : Bool) (ps : List BtfParam) → length (cond b (named_params name proto ps) ps) ≡ length ps
-params_length name proto true ps = part_length (named_param name) proto.start proto.len ps
+params_length name proto true ps = part_length (named_param name) proto.parts.start proto.parts.len ps
 params_length name proto false ps = refl
 
 -- the rows keep their shape
@@ -132,7 +134,7 @@ entry_rewritten p int at i t =
     by_entry p int at i t (Rewritten t)
     (λ q s e.
     record {
-      types = alike_set t.types id (global_func row) (record { kind = refl; name = refl; start = refl; len = refl });
+      types = alike_set t.types id (global_func row) (record { kind = refl; name = refl; parts = refl });
       entries = length-set t.entries at (placed q i);
       params = params_length (type_at t.types q).name_offset (type_at t.types row.size_or_type) (is_func_proto (type_at t.types row.size_or_type)) t.params;
       strings = refl;
@@ -141,7 +143,7 @@ entry_rewritten p int at i t =
     (λ s e. rewritten_same t)
     (λ e.
     record {
-      types = alike_set t.types id (global_var int row) (record { kind = refl; name = refl; start = refl; len = refl });
+      types = alike_set t.types id (global_var int row) (record { kind = refl; name = refl; parts = refl });
       entries = length-set t.entries at (placed id i);
       params = refl;
       strings = refl;
@@ -246,10 +248,10 @@ not_both r s h =
 
 module _ (p : Option ℕ) (d int : ℕ) (t : Tables) where
   abbrev pub begin : ℕ
-  begin = (type_at t.types d).start
+  begin = (type_at t.types d).parts.start
 
   abbrev pub size : ℕ
-  size = (type_at t.types d).len
+  size = (type_at t.types d).parts.len
 
   abbrev pub gone : Tables
   gone = after p int begin t size
@@ -257,7 +259,7 @@ module _ (p : Option ℕ) (d int : ℕ) (t : Tables) where
   pub section_row_rewritten : Rewritten gone (fix_section p d int t)
   section_row_rewritten =
       record {
-        types = alike_set gone.types d (sized (4 * size) (type_at gone.types d)) (record { kind = refl; name = refl; start = refl; len = refl });
+        types = alike_set gone.types d (sized (4 * size) (type_at gone.types d)) (record { kind = refl; name = refl; parts = refl });
         entries = refl;
         params = refl;
         strings = refl;
@@ -286,7 +288,7 @@ module _ (p : Option ℕ) (d int : ℕ) (t : Tables) where
   section_ids fit Q f h e i =
       let none : DataSecEntry = record { btf_type = 0; offset = 0; size = 0 } in
       let s = alike_at t.types (fix_section p d int t).types section_rewritten.types d in
-      let j : In e (take size (drop begin gone.entries)) = subst (In e) (λ k. take (s.len k) (drop (s.start k) gone.entries)) i in
+      let j : In e (part gone.entries (type_at t.types d).parts) = subst (In e) (ap (part gone.entries) s.parts) i in
       let r = in_part begin size gone.entries none e j in
       let lt = r.1 in
       subst (λ (z : DataSecEntry). Q z.btf_type) r.2
@@ -323,11 +325,11 @@ module _ (o : Object) (c : Collected o) where
   pub one_section : is_data_sec (type_at with_one.1.types c.section) ≡ true
   one_section = ap is_data_sec one_row ∙ found_row.1
 
-  pub one_fits : Fits o.tables → (type_at with_one.1.types c.section).start + (type_at with_one.1.types c.section).len ≤ length with_one.1.entries
+  pub one_fits : Fits o.tables → end_of (type_at with_one.1.types c.section).parts ≤ length with_one.1.entries
   one_fits f =
       let a = span_inside 15 (length o.tables.entries) 0 o.tables.types f.sections c.section found_row.0 found_row.1 in
       let b : length with_one.1.entries ≡ length o.tables.entries = ap length one_longer.entries in
-      subst (λ (r : BtfType). r.start + r.len ≤ length with_one.1.entries) (sym one_row) (omega arith)
+      subst (λ (r : BtfType). end_of r.parts ≤ length with_one.1.entries) (sym one_row) (omega arith)
 
   pub one_declared : (x : ℕ) → declares o.tables x ≡ true → Declared with_one.1 x
   one_declared x h = longer_declared o.tables with_one.1 one_longer x (declared_is o.tables x h)
@@ -424,14 +426,14 @@ not_named name x (inl e) = cond-false (not (eqb x.btf_type 0) && eqb x.name_offs
 not_named name x (inr n) = cond-false (not (eqb x.btf_type 0) && eqb x.name_offset 0) _ _ (and_right (not (eqb x.btf_type 0)) _ (ne_eqb _ 0 n))
 
 params_at : (name : ℕ) (proto : BtfType) (b : Bool) (ps : List BtfParam) (m : ℕ)
-    → Unnamed (param_at ps m) ⊎ (b ≡ true → (m < proto.start) ⊎ (proto.start + proto.len ≤ m)) → param_at (cond b (named_params name proto ps) ps) m ≡ param_at ps m
+    → Unnamed (param_at ps m) ⊎ (b ≡ true → Outside proto.parts m) → param_at (cond b (named_params name proto ps) ps) m ≡ param_at ps m
 params_at name proto true ps m h =
     ⊎_elim (λ e. e)
     (λ r.
     let a = r.0 in
     let b = r.1 in
-    ⊎_elim (λ n. r.2 ∙ not_named name (param_at ps m) n) (λ g. absurd (⊎_elim (λ (l : m < proto.start). omega arith) (λ (l : proto.start + proto.len ≤ m). omega arith) (g refl))) h)
-    (part_at (named_param name) proto.start proto.len ps (record { name_offset = 0; btf_type = 0 }) m)
+    ⊎_elim (λ n. r.2 ∙ not_named name (param_at ps m) n) (λ g. absurd (⊎_elim (λ (l : m < proto.parts.start). omega arith) (λ (l : end_of proto.parts ≤ m). omega arith) (g refl))) h)
+    (part_at (named_param name) proto.parts.start proto.parts.len ps (record { name_offset = 0; btf_type = 0 }) m)
 params_at name proto false ps m h = refl
 
 pub param_same : (p : Option ℕ) (int at i : ℕ) (t : Tables) (m : ℕ)
@@ -452,26 +454,26 @@ not_of ts us id m s f h a b =
     let g = (f k).1 in
     let e = (f k).0 in
     let row = ap (type_at us) e in
-    subst (λ (r : BtfType). (m < r.start) ⊎ (r.start + r.len ≤ m)) (sym row)
-    (subst (λ (z : ℕ × ℕ). (m < z.0) ⊎ (z.0 + z.1 ≤ m)) (λ i. (sym g.start i, sym g.len i))
+    subst (λ (r : BtfType). Outside r.parts m) (sym row)
+    (subst (λ (s : Span). Outside s m) (sym g.parts)
     (h k (sym (ap (λ k. eqb (kind_number k) 13) g.kind) ∙ ap is_func_proto (sym row) ∙ b)))
 
 module _ (p : Option ℕ) (int start : ℕ) (t : Tables) (len : ℕ) where
   -- the entries that i steps leave
-  abbrev pub Outside : ℕ → Tables → Type 0
-  Outside i u = (m : ℕ) → (m < start) ⊎ (start + i ≤ m) → entry_at u.entries m ≡ entry_at t.entries m
+  abbrev pub Untouched : ℕ → Tables → Type 0
+  Untouched i u = (m : ℕ) → (m < start) ⊎ (start + i ≤ m) → entry_at u.entries m ≡ entry_at t.entries m
 
-  pub outside_on : (i : ℕ) (u : Tables) → Outside i u → Outside (i + 1) (fix_entry p int (start + i) i u)
+  pub outside_on : (i : ℕ) (u : Tables) → Untouched i u → Untouched (i + 1) (fix_entry p int (start + i) i u)
   outside_on i u h m s =
       let n : m ≡ start + i → ⊥ = λ e. ⊎_elim (λ (l : m < start). omega arith) (λ (l : start + (i + 1) ≤ m). omega arith) s in
       entry_other p int (start + i) i u m n ∙ h m (⊎_elim (λ l. inl l) (λ (l : start + (i + 1) ≤ m). inr (let g : start + i ≤ m = omega arith in g)) s)
 
-  pub entries_outside : Outside len (after p int start t len)
-  entries_outside = entries_keep p int start t len Outside (λ m s. refl) (λ i u l h. outside_on i u h)
+  pub entries_outside : Untouched len (after p int start t len)
+  entries_outside = entries_keep p int start t len Untouched (λ m s. refl) (λ i u l h. outside_on i u h)
 
   pub entries_row : (k : ℕ) → ((j : ℕ) → j < len → (entry_at t.entries (start + j)).btf_type ≡ k → ⊥) → type_at (after p int start t len).types k ≡ type_at t.types k
   entries_row k n =
-      (entries_keep p int start t len (λ i u. Outside i u × (type_at u.types k ≡ type_at t.types k)) ((λ m s. refl), refl)
+      (entries_keep p int start t len (λ i u. Untouched i u × (type_at u.types k ≡ type_at t.types k)) ((λ m s. refl), refl)
       (λ i u l h.
       let here : entry_at u.entries (start + i) ≡ entry_at t.entries (start + i) = h.0 (start + i) (inr (omega arith)) in
       (outside_on i u h.0, row_other p int (start + i) i u k (λ e. n i l (ap (λ (z : DataSecEntry). z.btf_type) (sym here) ∙ sym e)) ∙ h.1))
@@ -487,7 +489,7 @@ module _ (p : Option ℕ) (int start : ℕ) (t : Tables) (len : ℕ) where
   pub entries_param : (m : ℕ) → Unnamed (param_at t.params m) ⊎ ((j : ℕ) → j < len → NotOf t.types (entry_at t.entries (start + j)).btf_type m)
       → param_at (after p int start t len).params m ≡ param_at t.params m
   entries_param m h =
-      (entries_keep p int start t len (λ i u. Outside i u × Rewritten t u × Typed u × (param_at u.params m ≡ param_at t.params m))
+      (entries_keep p int start t len (λ i u. Untouched i u × Rewritten t u × Typed u × (param_at u.params m ≡ param_at t.params m))
       ((λ m s. refl), rewritten_same t, (λ x e. refl), refl)
       (λ i u l k.
       let id = (entry_at t.entries (start + i)).btf_type in
@@ -507,14 +509,14 @@ module _ (o : Object) (c : Collected o) (f : Fits o.tables) where
   new = record { tables = done o c; externs = o.externs; placeholder = o.placeholder }
 
   -- an entry that a step is about was one of the section's
-  inside : (j : ℕ) → j < (type_at (with_one o c).1.types c.section).len
-      → In (entry_at (with_one o c).1.entries ((type_at (with_one o c).1.types c.section).start + j)) (entries_of o.tables c.section)
+  inside : (j : ℕ) → j < (type_at (with_one o c).1.types c.section).parts.len
+      → In (entry_at (with_one o c).1.entries ((type_at (with_one o c).1.types c.section).parts.start + j)) (entries_of o.tables c.section)
   inside j l =
       let u = (with_one o c).1 in
       let row = type_at u.types c.section in
       let fit = one_fits o c f in
-      subst (In (entry_at u.entries (row.start + j))) (longer_entries o.tables u (one_longer o c) c.section (found_row o c).0)
-      (part_in row.start row.len u.entries (record { btf_type = 0; offset = 0; size = 0 }) j l (omega arith))
+      subst (In (entry_at u.entries (row.parts.start + j))) (longer_entries o.tables u (one_longer o c) c.section (found_row o c).0)
+      (part_in row.parts.start row.parts.len u.entries (record { btf_type = 0; offset = 0; size = 0 }) j l (omega arith))
 
   leaves_shape : (k : ℕ) → k < length o.tables.types → Shape (type_at o.tables.types k) (type_at new.tables.types k)
   leaves_shape k lt =
@@ -528,15 +530,15 @@ module _ (o : Object) (c : Collected o) (f : Fits o.tables) where
       let u = (with_one o c).1 in
       let row = type_at u.types c.section in
       section_other o.placeholder c.section (with_one o c).0 u k n
-      ∙ entries_row o.placeholder (with_one o c).0 row.start u row.len k (λ j l. h (entry_at u.entries (row.start + j)) (inside j l))
+      ∙ entries_row o.placeholder (with_one o c).0 row.parts.start u row.parts.len k (λ j l. h (entry_at u.entries (row.parts.start + j)) (inside j l))
       ∙ longer_at o.tables u (one_longer o c) k lt
 
-  leaves_entries : (k : ℕ) → (k < (type_at o.tables.types c.section).start) ⊎ ((type_at o.tables.types c.section).start + (type_at o.tables.types c.section).len ≤ k)
+  leaves_entries : (k : ℕ) → Outside (type_at o.tables.types c.section).parts k
       → entry_at new.tables.entries k ≡ entry_at o.tables.entries k
   leaves_entries k s =
       let u = (with_one o c).1 in
       let row = type_at u.types c.section in
-      entries_outside o.placeholder (with_one o c).0 row.start u row.len k (subst (λ (r : BtfType). (k < r.start) ⊎ (r.start + r.len ≤ k)) (sym (one_row o c)) s)
+      entries_outside o.placeholder (with_one o c).0 row.parts.start u row.parts.len k (subst (λ (r : BtfType). Outside r.parts k) (sym (one_row o c)) s)
       ∙ ap (λ es. entry_at es k) (one_longer o c).entries
 
   leaves_params : (k : ℕ) → Unnamed (param_at o.tables.params k) ⊎ ((e : DataSecEntry) → In e (entries_of o.tables c.section) → NotOf o.tables.types e.btf_type k)
@@ -549,13 +551,13 @@ module _ (o : Object) (c : Collected o) (f : Fits o.tables) where
       let shape : (x : ℕ) → x < length o.tables.types → Shape (type_at o.tables.types x) (type_at u.types x) = λ x lt.
       subst (Shape (type_at o.tables.types x)) (sym (longer_at o.tables u long x lt)) (shape_same _) in
       let other : ((e : DataSecEntry) → In e (entries_of o.tables c.section) → NotOf o.tables.types e.btf_type k)
-      → (j : ℕ) → j < row.len → NotOf u.types (entry_at u.entries (row.start + j)).btf_type k = λ g j l.
-      let e = entry_at u.entries (row.start + j) in
+      → (j : ℕ) → j < row.parts.len → NotOf u.types (entry_at u.entries (row.parts.start + j)).btf_type k = λ g j l.
+      let e = entry_at u.entries (row.parts.start + j) in
       let i = inside j l in
       let d = declared_is o.tables e.btf_type (c.entries e i) in
       not_of o.tables.types u.types e.btf_type k (shape _ d.below)
       (λ a. (ap (λ (r : BtfType). r.size_or_type) (longer_at o.tables u long _ d.below), shape _ d.type)) (g e i) in
-      entries_param o.placeholder (with_one o c).0 row.start u row.len k (⊎_elim (λ n. inl (subst Unnamed (sym same) n)) (λ g. inr (other g)) h) ∙ same
+      entries_param o.placeholder (with_one o c).0 row.parts.start u row.parts.len k (⊎_elim (λ n. inl (subst Unnamed (sym same) n)) (λ g. inr (other g)) h) ∙ same
 
   leaves_strings : (k : ℕ) → k < length o.tables.strings → get_or new.tables.strings k 0 ≡ get_or o.tables.strings k 0
   leaves_strings k lt =
@@ -571,8 +573,7 @@ module _ (o : Object) (c : Collected o) (f : Fits o.tables) where
         rows = leaves_rows;
         kinds = λ k lt. (leaves_shape k lt).kind;
         names = λ k lt. (leaves_shape k lt).name;
-        starts = λ k lt. (leaves_shape k lt).start;
-        lens = λ k lt. (leaves_shape k lt).len;
+        parts = λ k lt. (leaves_shape k lt).parts;
         entries = leaves_entries;
         params = λ k h. leaves_params k (inl h);
         other_params = λ k h. leaves_params k (inr h);
@@ -587,8 +588,7 @@ same_leaves o d =
       rows = λ k a b e. refl;
       kinds = λ k a. refl;
       names = λ k a. refl;
-      starts = λ k a. refl;
-      lens = λ k a. refl;
+      parts = λ k a. refl;
       entries = λ k a. refl;
       params = λ k a. refl;
       other_params = λ k a. refl;

@@ -1,5 +1,5 @@
 -- Tables that grow, or whose rows are rewritten and keep their shape, stay well-formed.
-use Rattle.std.proofs.Common.{◌≡◌, ℕ, zero, suc, ◌+◌, ◌<◌, ◌≤◌, Bool, true, false, cond, ◌&&◌, ◌||◌, eqb, ltb, leb, ◌⊎◌, List, [], ◌∷◌, ◌++◌, length, take, drop, set, is_some, Some, None, Ok, codes, Option, Result, sym, refl, ap, ◌∙◌, subst, inl, inr, ⊎_elim, arith}
+use Rattle.std.proofs.Common.{◌≡◌, ℕ, zero, suc, ◌+◌, ◌<◌, ◌≤◌, Bool, true, false, cond, ◌&&◌, ◌||◌, eqb, ltb, leb, ◌⊎◌, List, [], ◌∷◌, ◌++◌, length, drop, set, is_some, Some, None, Ok, codes, Option, Result, sym, refl, ap, ◌∙◌, subst, inl, inr, ⊎_elim, arith}
 use Rattle.std.specs.Option.{option_map}
 use Rattle.std.specs.Str.{bytes_eq}
 use Rattle.std.proofs.lemmas.List.{append-nil, append_assoc, length-append, length_push, get_or_append_left, drop-append-le, at_drop_all}
@@ -11,6 +11,7 @@ use Rattle.model.specs.Collected.{declares}
 use Rattle.model.specs.Kinds.{kind_number, of_kind, is_func, is_var, is_data_sec}
 use Rattle.model.specs.Lists.{all, lookup, number_of}
 use Rattle.model.specs.Names.{to_zero, name_at}
+use Rattle.model.specs.Spans.{part, end_of}
 use Rattle.model.specs.Tables.{Tables, MAX_ROWS, MAX_NAMES, void_first, spans_follow, parts_fit, few, tables_fit}
 use Rattle.model.specs.declared.btf.BtfType.{BtfType}
 use Rattle.model.specs.declared.refusal.Reason.{Reason}
@@ -20,14 +21,13 @@ use Rattle.model.proofs.Lookups.{some_not, some_same, ok_same, err_not}
 pub record Shape (t u : BtfType) : Type 0 where
   pub kind : u.kind ≡ t.kind
   pub name : u.name_offset ≡ t.name_offset
-  pub start : u.start ≡ t.start
-  pub len : u.len ≡ t.len
+  pub parts : u.parts ≡ t.parts
 
 pub shape_same : (t : BtfType) → Shape t t
-shape_same t = record { kind = refl; name = refl; start = refl; len = refl }
+shape_same t = record { kind = refl; name = refl; parts = refl }
 
 pub shape_on : (t u v : BtfType) → Shape t u → Shape u v → Shape t v
-shape_on t u v a b = record { kind = b.kind ∙ a.kind; name = b.name ∙ a.name; start = b.start ∙ a.start; len = b.len ∙ a.len }
+shape_on t u v a b = record { kind = b.kind ∙ a.kind; name = b.name ∙ a.name; parts = b.parts ∙ a.parts }
 
 abbrev pub Alike : List BtfType → List BtfType → Type 0
 Alike [] [] = Unit {0}
@@ -76,7 +76,7 @@ alike_void (t ∷ ts) [] a = absurd a
 alike_void (t ∷ ts) (u ∷ us) a = kind_same 0 t u a.0
 
 parts_same : (t u : BtfType) → Shape t u → parts_fit u ≡ parts_fit t
-parts_same t u s = λ i. (kind_same 15 t u s i || kind_same 13 t u s i) || eqb (s.len i) 0
+parts_same t u s = λ i. (kind_same 15 t u s i || kind_same 13 t u s i) || eqb (s.parts i).len 0
 
 pub alike_parts : (ts us : List BtfType) → Alike ts us → all parts_fit us ≡ all parts_fit ts
 alike_parts [] [] a = refl
@@ -90,8 +90,8 @@ alike_spans k at n [] (u ∷ us) a = absurd a
 alike_spans k at n (t ∷ ts) [] a = absurd a
 alike_spans k at n (t ∷ ts) (u ∷ us) a =
     let s = a.0 in
-    (λ i. cond (kind_same k t u s i) (eqb (s.start i) at && spans_follow k (at + s.len i) us n) (spans_follow k at us n))
-    ∙ (λ i. cond (of_kind k t) (eqb t.start at && alike_spans k (at + t.len) n ts us a.1 i) (alike_spans k at n ts us a.1 i))
+    (λ i. cond (kind_same k t u s i) (eqb (s.parts i).start at && spans_follow k (at + (s.parts i).len) us n) (spans_follow k at us n))
+    ∙ (λ i. cond (of_kind k t) (eqb t.parts.start at && alike_spans k (at + t.parts.len) n ts us a.1 i) (alike_spans k at n ts us a.1 i))
 
 pub alike_section : (strings : List ℕ) (i : ℕ) (ts us : List BtfType) → Alike ts us → section_from strings i us ≡ section_from strings i ts
 alike_section strings i [] [] a = refl
@@ -105,7 +105,7 @@ alike_section strings i (t ∷ ts) (u ∷ us) a =
 -- ---- a row more
 pub spans_push : (k at n : ℕ) (ts : List BtfType) (u : BtfType) → of_kind k u ≡ false → spans_follow k at (ts ++ u ∷ []) n ≡ spans_follow k at ts n
 spans_push k at n [] u o = cond-false (of_kind k u) _ _ o
-spans_push k at n (t ∷ ts) u o = λ i. cond (of_kind k t) (eqb t.start at && spans_push k (at + t.len) n ts u o i) (spans_push k at n ts u o i)
+spans_push k at n (t ∷ ts) u o = λ i. cond (of_kind k t) (eqb t.parts.start at && spans_push k (at + t.parts.len) n ts u o i) (spans_push k at n ts u o i)
 
 pub void_push : (ts us : List BtfType) → void_first ts ≡ true → void_first (ts ++ us) ≡ true
 void_push [] us h = absurd (false≢true h)
@@ -183,8 +183,8 @@ section_is strings ts d h =
 -- ---- each span lies inside the table
 module _ (c n : ℕ) where
   span_parts : (at : ℕ) (t : BtfType) (ts : List BtfType) → of_kind c t ≡ true → spans_follow c at (t ∷ ts) n ≡ true
-      → (t.start ≡ at) × (spans_follow c (at + t.len) ts n ≡ true)
-  span_parts at t ts s h = let p = and_parts _ _ (sym (cond-true _ _ _ s) ∙ h) in (eqb-true t.start at p.0, p.1)
+      → (t.parts.start ≡ at) × (spans_follow c (at + t.parts.len) ts n ≡ true)
+  span_parts at t ts s h = let p = and_parts _ _ (sym (cond-true _ _ _ s) ∙ h) in (eqb-true t.parts.start at p.0, p.1)
 
   span_other : (at : ℕ) (t : BtfType) (ts : List BtfType) → of_kind c t ≡ false → spans_follow c at (t ∷ ts) n ≡ true → spans_follow c at ts n ≡ true
   span_other at t ts s h = sym (cond-false _ _ _ s) ∙ h
@@ -193,20 +193,20 @@ module _ (c n : ℕ) where
   end_inside at [] h = leb-true at n h
   end_inside at (t ∷ ts) h =
       ⊎_elim
-      (λ (s : of_kind c t ≡ true). let i = end_inside (at + t.len) ts (span_parts at t ts s h).1 in omega (arith, i))
+      (λ (s : of_kind c t ≡ true). let i = end_inside (at + t.parts.len) ts (span_parts at t ts s h).1 in omega (arith, i))
       (λ (s : of_kind c t ≡ false). end_inside at ts (span_other at t ts s h)) (cases_Bool (of_kind c t))
 
   pub span_inside : (at : ℕ) (ts : List BtfType) → spans_follow c at ts n ≡ true → (d : ℕ) → d < length ts → of_kind c (type_at ts d) ≡ true
-      → (type_at ts d).start + (type_at ts d).len ≤ n
+      → end_of (type_at ts d).parts ≤ n
   span_inside at [] h d lt s = absurd (omega arith)
   span_inside at (t ∷ ts) h zero lt s =
       let p = span_parts at t ts s h in
-      let i = end_inside (at + t.len) ts p.1 in
+      let i = end_inside (at + t.parts.len) ts p.1 in
       let e = p.0 in
       omega arith
   span_inside at (t ∷ ts) h (suc d) lt s =
       ⊎_elim
-      (λ (e : of_kind c t ≡ true). span_inside (at + t.len) ts (span_parts at t ts e h).1 d (omega arith) s)
+      (λ (e : of_kind c t ≡ true). span_inside (at + t.parts.len) ts (span_parts at t ts e h).1 d (omega arith) s)
       (λ (e : of_kind c t ≡ false). span_inside at ts (span_other at t ts e h) d (omega arith) s) (cases_Bool (of_kind c t))
 
 -- ---- well-formed tables, part by part
@@ -357,7 +357,7 @@ longer_section t u l d h =
     (λ i. section_from (l.strings i) 0 (l.types i)) ∙ section_grows t.strings l.bytes l.rows 0 d t.types h
 
 pub longer_entries : (t u : Tables) → Longer t u → (d : ℕ) → d < length t.types → entries_of u d ≡ entries_of t d
-longer_entries t u l d lt = λ i. take (longer_at t u l d lt i).len (drop (longer_at t u l d lt i).start (l.entries i))
+longer_entries t u l d lt = λ i. part (l.entries i) (longer_at t u l d lt i).parts
 
 -- ---- an id that declares, part by part
 pub record Declared (t : Tables) (id : ℕ) : Type 0 where

@@ -6,10 +6,10 @@ use Rattle.std.proofs.lemmas.Bool.{cond-true, cond-false, cond_both, cases_Bool,
 use Rattle.model.specs.Externs.{Extern, extern_named}
 use Rattle.model.specs.Laws.{name_in, name_of, Touches, LoadAlone}
 use Rattle.model.specs.Lists.{In}
-use Rattle.model.specs.Names.{part}
 use Rattle.model.specs.Relocate.{Program, Taken, taken, taken_in, points_into, functions_follow, on_slot, slot_index, has_next, symbol_of, slot_at, is_call, is_load, call_slot, load_value, with_call, with_pair, with_load, patch_extern, patch_found, patch_name, patch_symbol, patch, patched, relocated, extern_name}
 use Rattle.model.specs.SlotLaws.{FitsSlot}
 use Rattle.model.specs.Slots.{LOAD, CALL, low, high, with_imm, with_src}
+use Rattle.model.specs.Spans.{part, end_of}
 use Rattle.model.specs.Tables.{Symbols}
 use Rattle.model.specs.declared.refusal.Reason.{Reason}
 use Rattle.model.specs.declared.rows.Function.{Function}
@@ -44,17 +44,17 @@ taken_of (f ∷ fs) rs t i = ⊎_elim (λ j. inl (taken_in_of f 0 rs t j)) (λ j
 
 follow_le : (at n : ℕ) (fs : List Function) → functions_follow at n fs ≡ true → at ≤ n
 follow_le at n [] h = leb-true at n h
-follow_le at n (f ∷ fs) h = let k = follow_le (at + f.len) n fs (and_parts (eqb f.start at) (functions_follow (at + f.len) n fs) h).1 in omega arith
+follow_le at n (f ∷ fs) h = let k = follow_le (at + f.slots.len) n fs (and_parts (eqb f.slots.start at) (functions_follow (at + f.slots.len) n fs) h).1 in omega arith
 
-follow_in : (at n : ℕ) (fs : List Function) (f : Function) → functions_follow at n fs ≡ true → In f fs → f.start + f.len ≤ n
+follow_in : (at n : ℕ) (fs : List Function) (f : Function) → functions_follow at n fs ≡ true → In f fs → end_of f.slots ≤ n
 follow_in at n [] f h i = absurd i
 follow_in at n (g ∷ fs) f h (inl q) =
-    let p = and_parts (eqb g.start at) _ h in
-    let s = eqb-true g.start at p.0 in
-    let k = follow_le (at + g.len) n fs p.1 in
-    let e : g.start + g.len ≤ n = omega arith in
-    subst (λ x. x.start + x.len ≤ n) q e
-follow_in at n (g ∷ fs) f h (inr i) = follow_in (at + g.len) n fs f (and_parts _ _ h).1 i
+    let p = and_parts (eqb g.slots.start at) _ h in
+    let s = eqb-true g.slots.start at p.0 in
+    let k = follow_le (at + g.slots.len) n fs p.1 in
+    let e : end_of g.slots ≤ n = omega arith in
+    subst (λ x. end_of x.slots ≤ n) q e
+follow_in at n (g ∷ fs) f h (inr i) = follow_in (at + g.slots.len) n fs f (and_parts _ _ h).1 i
 
 -- ---- what one relocation changes
 abbrev pub EachFits : List Slot → Type 0

@@ -6,9 +6,9 @@ use Rattle.model.specs.Collected.{Collected, collected_if_any, object_fits}
 use Rattle.model.specs.Externs.{Extern, Object}
 use Rattle.model.specs.Kinds.{kind_number, of_kind, is_func_proto, is_data_sec}
 use Rattle.model.specs.Lists.{all, ascends, earlier}
-use Rattle.model.specs.Names.{inside}
 use Rattle.model.specs.Relocate.{Program, functions_follow, functions_fit, relocations_fit, code_fits, program_fits}
 use Rattle.model.specs.Slots.{whole_slots}
+use Rattle.model.specs.Spans.{inside, end_of}
 use Rattle.model.specs.TableLaws.{parts_of, SpansFollow, WellFormedTables, WellFormedObject, Before, WellFormedSymbols, WellFormedCatalogue, slots_of, WellFormedProgram, TablesAreTested}
 use Rattle.model.specs.Tables.{Tables, Symbols, Catalogue, MAX_ROWS, MAX_FUNCTIONS, MAX_NAMES, MAX_SECTION_OFFSET, MAX_EXTERNS, void_first, spans_follow, parts_fit, tables_fit, inside_if_any, symbols_fit, catalogue_fits}
 use Rattle.model.specs.declared.btf.BtfType.{BtfType}
@@ -136,7 +136,7 @@ module _ {X : Type 0} (counts : X → Bool) (start len : X → ℕ) (n : ℕ) (f
 -- ---- a BTF
 spans_are : (k n : ℕ) (ts : List BtfType) → (spans_follow k 0 ts n ≡ true) ↔ SpansFollow k ts n
 spans_are k n ts =
-    let both = follow_is (of_kind k) (λ (t : BtfType). t.start) (λ (t : BtfType). t.len) n (λ at us. spans_follow k at us n) (parts_of k)
+    let both = follow_is (of_kind k) (λ (t : BtfType). t.parts.start) (λ (t : BtfType). t.parts.len) n (λ at us. spans_follow k at us n) (parts_of k)
     (λ at. refl) (λ at t us. refl) refl (λ t us. refl) ts in (
       (λ h. let p = both.0 h in record { starts = p.0; ends = p.1 }),
       λ s. both.1 (s.starts, s.ends),
@@ -150,11 +150,11 @@ is_void : (ts : List BtfType) → 0 < length ts → kind_number (type_at ts 0).k
 is_void [] l e = absurd (omega arith)
 is_void (t ∷ ts) l e = eq-eqb _ _ e
 
-part_is : (r : BtfType) → parts_fit r ≡ true → of_kind 15 r ≡ false → of_kind 13 r ≡ false → r.len ≡ 0
+part_is : (r : BtfType) → parts_fit r ≡ true → of_kind 15 r ≡ false → of_kind 13 r ≡ false → r.parts.len ≡ 0
 part_is r h s p =
-    ⊎_elim (λ t. absurd (false≢true (sym (or_from (is_data_sec r) (is_func_proto r) s p) ∙ t))) (λ t. eqb-true _ _ t) (or_cases (is_data_sec r || is_func_proto r) (eqb r.len 0) h)
+    ⊎_elim (λ t. absurd (false≢true (sym (or_from (is_data_sec r) (is_func_proto r) s p) ∙ t))) (λ t. eqb-true _ _ t) (or_cases (is_data_sec r || is_func_proto r) (eqb r.parts.len 0) h)
 
-is_part : (r : BtfType) → (of_kind 15 r ≡ false → of_kind 13 r ≡ false → r.len ≡ 0) → parts_fit r ≡ true
+is_part : (r : BtfType) → (of_kind 15 r ≡ false → of_kind 13 r ≡ false → r.parts.len ≡ 0) → parts_fit r ≡ true
 is_part r h =
     ⊎_elim (λ t. or_left (is_data_sec r || is_func_proto r) _ t)
     (λ t. let p = or_parts (is_data_sec r) (is_func_proto r) t in or_right (is_data_sec r || is_func_proto r) _ (eq-eqb _ _ (h p.0 p.1)))
@@ -209,11 +209,11 @@ indices_ascend ss =
     ascends_is (λ (s : Symbol) (t : Symbol). ltb s.index t.index) (λ (s : Symbol) (t : Symbol). s.index < t.index) (λ s t. ltb-true s.index t.index) (λ s t. lt-ltb s.index t.index)
     (λ s t u a b. omega arith) ss
 
-inside_is : (names : List ℕ) (o : Option Span) → inside_if_any names o ≡ true → (n : Span) → o ≡ Some n → n.start + n.len ≤ length names
+inside_is : (names : List ℕ) (o : Option Span) → inside_if_any names o ≡ true → (n : Span) → o ≡ Some n → end_of n ≤ length names
 inside_is names None h n e = absurd (some_not n (sym e))
-inside_is names (Some m) h n e = subst (λ (z : Span). z.start + z.len ≤ length names) (some_same m n e) (leb-true _ _ h)
+inside_is names (Some m) h n e = subst (λ (z : Span). end_of z ≤ length names) (some_same m n e) (leb-true _ _ h)
 
-is_inside : (names : List ℕ) (o : Option Span) → ((n : Span) → o ≡ Some n → n.start + n.len ≤ length names) → inside_if_any names o ≡ true
+is_inside : (names : List ℕ) (o : Option Span) → ((n : Span) → o ≡ Some n → end_of n ≤ length names) → inside_if_any names o ≡ true
 is_inside names None h = refl
 is_inside names (Some m) h = le-leb _ _ (h m refl)
 
@@ -257,9 +257,9 @@ module _ (c : Catalogue) where
 
 -- ---- a program
 functions_are : (n : ℕ) (fs : List Function)
-    → (functions_follow 0 n fs ≡ true) ↔ (((front : List Function) (f : Function) (back : List Function) → fs ≡ front ++ f ∷ back → f.start ≡ slots_of front) × (slots_of fs ≤ n))
+    → (functions_follow 0 n fs ≡ true) ↔ (((front : List Function) (f : Function) (back : List Function) → fs ≡ front ++ f ∷ back → f.slots.start ≡ slots_of front) × (slots_of fs ≤ n))
 functions_are n fs =
-    let both = follow_is (λ (f : Function). true) (λ (f : Function). f.start) (λ (f : Function). f.len) n (λ at gs. functions_follow at n gs) slots_of
+    let both = follow_is (λ (f : Function). true) (λ (f : Function). f.slots.start) (λ (f : Function). f.slots.len) n (λ at gs. functions_follow at n gs) slots_of
     (λ at. refl) (λ at f gs. refl) refl (λ f gs. refl) fs in (
       (λ h. let p = both.0 h in ((λ front f back e. p.0 front f back e refl), p.1)),
       λ h. both.1 ((λ front f back e c. h.0 front f back e), h.1),

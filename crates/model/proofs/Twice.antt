@@ -14,6 +14,7 @@ use Rattle.model.specs.Tables.{Tables}
 use Rattle.model.specs.declared.btf.BtfType.{BtfType}
 use Rattle.model.specs.declared.btf.DataSecEntry.{DataSecEntry}
 use Rattle.model.specs.declared.refusal.Reason.TheVariants.{NoRoom}
+use Rattle.model.specs.declared.rows.Span.{Span}
 use Rattle.model.proofs.Lookups.{some_not, some_same}
 use Rattle.model.proofs.Grown.{alike_length, alike_at, Fits, Rewritten, rewritten_same, rewritten_on, Declared, declared_is, longer_at, longer_length, longer_entries}
 use Rattle.model.proofs.Fixes.{at_set, part_in, id_at, row_at, by_entry, entry_rewritten, entry_id, entry_other, after, entries_keep, entries_rewritten, begin, size, gone, section_rewritten, with_one, done, done_is, one_longer, found_row, one_section, one_fits, one_declared, done_found, object_parts, object_collected}
@@ -90,7 +91,7 @@ idle_entry p int at i t h =
     let g : Good t.types int id = subst (Good t.types int) (sym is) h.2 in
     let row = type_at t.types id in
     let same : global_var int row ≡ row =
-    λ k. record { kind = row.kind; name_offset = row.name_offset; info = row.info; size_or_type = sym g.type k; «data» = sym g.global k; start = row.start; len = row.len } in
+    λ k. record { kind = row.kind; name_offset = row.name_offset; info = row.info; size_or_type = sym g.type k; «data» = sym g.global k; parts = row.parts } in
     let here : placed id i ≡ entry_at t.entries at = ap (λ j. placed j i) is ∙ sym h.1 in
     let types : set t.types id (global_var int row) ≡ t.types = ap (set t.types id) same ∙ set-get_or t.types id no_row in
     let entries : set t.entries at (placed id i) ≡ t.entries = ap (set t.entries at) here ∙ set-get_or t.entries at none in
@@ -201,15 +202,15 @@ module _ (p : Option ℕ) (d int : ℕ) (t : Tables) (lt : d < length t.types) (
   section_idle h =
       let s = alike_at t.types end.types (section_rewritten p d int t).types d in
       let row = type_at end.types d in
-      let n : row.size_or_type ≡ 4 * row.len = ap (λ (r : BtfType). r.size_or_type) end_row ∙ ap (λ k. 4 * k) (sym s.len) in
-      let same : sized (4 * row.len) row ≡ row =
-      λ k. record { kind = row.kind; name_offset = row.name_offset; info = row.info; size_or_type = sym n k; «data» = row.«data»; start = row.start; len = row.len } in
-      let idle : fix_entries p int row.start (range_with_len 0 row.len) end ≡ end =
-      idle_entries p int row.start end row.len
+      let n : row.size_or_type ≡ 4 * row.parts.len = ap (λ (r : BtfType). r.size_or_type) end_row ∙ ap (λ (k : Span). 4 * k.len) (sym s.parts) in
+      let same : sized (4 * row.parts.len) row ≡ row =
+      λ k. record { kind = row.kind; name_offset = row.name_offset; info = row.info; size_or_type = sym n k; «data» = row.«data»; parts = row.parts } in
+      let idle : fix_entries p int row.parts.start (range_with_len 0 row.parts.len) end ≡ end =
+      idle_entries p int row.parts.start end row.parts.len
       (λ j l.
-      let k = h j (subst (λ m. j < m) s.len l) in
-      subst (λ b. Placed end int (b + j) j) (sym s.start) (k.0, k.1, good_end k.0 k.2)) in
-      ap (λ (u : Tables). with_rows (set u.types d (sized (4 * row.len) (type_at u.types d))) u.entries u.params u) idle
+      let k = h j (subst (λ (m : Span). j < m.len) s.parts l) in
+      subst (λ (b : Span). Placed end int (b.start + j) j) (sym s.parts) (k.0, k.1, good_end k.0 k.2)) in
+      ap (λ (u : Tables). with_rows (set u.types d (sized (4 * row.parts.len) (type_at u.types d))) u.entries u.params u) idle
       ∙ ap (λ ts. with_rows ts end.entries end.params end) (ap (set end.types d) same ∙ set-get_or end.types d no_row)
 
 -- ---- the int row, once more

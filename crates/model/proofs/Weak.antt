@@ -11,7 +11,8 @@ use Rattle.model.specs.Laws.{AllGranted, SameButWeak, FollowsAlike, WeakForStron
 use Rattle.model.specs.Lines.{Line, said, first_address}
 use Rattle.model.specs.Lines.Line.{line, short}
 use Rattle.model.specs.Lists.{In, lookup}
-use Rattle.model.specs.Names.{name_at, reads_as, part}
+use Rattle.model.specs.Names.{name_at, reads_as}
+use Rattle.model.specs.Spans.{part}
 use Rattle.model.specs.Relocate.{Program, code_fits, relocations_fit, functions_fit, program_fits, Taken, taken, slot_index, slot_at, is_call, is_load, call_slot, load_value, with_call, with_load, patch_extern, patch_found, patch_name, patch_symbol, patch, patched, on_slot, symbol_of, extern_name}
 use Rattle.model.specs.Resolve.{candidate, id_if_fits, fitting_id, catalogue_refusal, typed_refusal, wanted, wanted_refusal, line_refusal, missing_refusal, lines_refusal, given_id, given_address, settled, zeroed, given}
 use Rattle.model.specs.Runs.{State, Step, brings_fit, fits, reason, answered, granted, made, patched_code, next, runs}

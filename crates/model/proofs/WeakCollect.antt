@@ -189,7 +189,7 @@ module _ (t : Tables) where
     section_alike (Err e) = refl
     section_alike (Ok None) = (m, refl)
     section_alike (Ok (Some d)) =
-        let n = (type_at t.types d).start in
+        let n = (type_at t.types d).parts.start in
         entries_alike n (entries_of t d) (has_func t.types n (entries_of t d))
 
     -- ---- the whole: refused alike, or granted with the externs made weak by some mask

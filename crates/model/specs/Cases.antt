@@ -15,6 +15,7 @@ use Rattle.model.specs.Resolve.{left_unread}
 use Rattle.model.specs.Runs.{State, Step, refusal, answer, answers, next, runs}
 use Rattle.model.specs.Runs.Step.{resolve, fixup, relocate}
 use Rattle.model.specs.Slots.{slots, slot_bytes, slots_bytes, dst_reg, src_reg}
+use Rattle.model.specs.Spans.{no_parts}
 use Rattle.model.specs.Tables.{Tables, Symbols, Catalogue}
 use Rattle.model.specs.declared.btf.BtfHeader.{BtfHeader}
 use Rattle.model.specs.declared.btf.BtfKind.{BtfKind}
@@ -37,7 +38,7 @@ use Rattle.model.specs.declared.rows.SymbolKind.TheVariants as symbol_kinds
 -- ---- the probe's types
 -- a row with a name, a type or size and the span of its parts
 abbrev pub row : BtfKind → ℕ → ℕ → ℕ → BtfType
-row kind name link len = record { kind = kind; name_offset = name; info = 0; size_or_type = link; «data» = 0; start = 0; len = len }
+row kind name link len = record { kind = kind; name_offset = name; info = 0; size_or_type = link; «data» = 0; parts = record { start = 0; len = len } }
 
 abbrev pub alias : ℕ → BtfType
 alias to = row kinds.Const 0 to 0
@@ -59,7 +60,7 @@ tables es void more =
       types = no_row
           ∷ row kinds.DataSec 1 9 (length es)
           ∷ row kinds.Var 8 void 0
-          ∷ record { kind = kinds.Func; name_offset = 15; info = 201326594; size_or_type = 4; «data» = 0; start = 0; len = 0 }
+          ∷ record { kind = kinds.Func; name_offset = 15; info = 201326594; size_or_type = 4; «data» = 0; parts = no_parts }
           ∷ row kinds.FuncProto 0 0 3
           ∷ more
           ∷ [];
@@ -71,7 +72,7 @@ tables es void more =
 
 -- an Int of size 8
 abbrev pub long : BtfType
-long = record { kind = kinds.Int; name_offset = 0; info = 16777216; size_or_type = 8; «data» = 64; start = 0; len = 0 }
+long = record { kind = kinds.Int; name_offset = 0; info = 16777216; size_or_type = 8; «data» = 64; parts = no_parts }
 
 abbrev pub both : List DataSecEntry
 both = entry 2 ∷ entry 3 ∷ []
@@ -124,8 +125,8 @@ abbrev pub collected : Object
 collected =
     record {
       tables = record {
-        types = probe.types ++ (record { kind = kinds.Int; name_offset = 26; info = 16777216; size_or_type = 4; «data» = 16777248; start = 0; len = 0 }
-            ∷ record { kind = kinds.Var; name_offset = 30; info = 234881024; size_or_type = 6; «data» = 1; start = 0; len = 0 }
+        types = probe.types ++ (record { kind = kinds.Int; name_offset = 26; info = 16777216; size_or_type = 4; «data» = 16777248; parts = no_parts }
+            ∷ record { kind = kinds.Var; name_offset = 30; info = 234881024; size_or_type = 6; «data» = 1; parts = no_parts }
             ∷ []);
         entries = probe.entries;
         params = probe.params;
@@ -189,7 +190,7 @@ at_zero = codes "0 d card_q"
 -- relocations of one function of n slots that begins at byte 16 of section 5
 abbrev pub relocating : ℕ → List Relocation → Step
 relocating n rs =
-    relocate (record { functions = record { section = 5; address = 0; section_offset = 16; start = 0; len = n } ∷ []; relocations = rs; symbols = symbols })
+    relocate (record { functions = record { section = 5; address = 0; section_offset = 16; slots = record { start = 0; len = n } } ∷ []; relocations = rs; symbols = symbols })
 
 abbrev pub at : ℕ → ℕ → Relocation
 at offset symbol = record { section = 5; offset = offset; symbol = symbol }
@@ -204,7 +205,7 @@ code_after ss st = slots (runs ss st).code
 abbrev pub relocating_two : List Relocation → Step
 relocating_two rs =
     relocate (record {
-      functions = record { section = 5; address = 0; section_offset = 16; start = 0; len = 2 } ∷ record { section = 5; address = 16; section_offset = 32; start = 2; len = 2 } ∷ [];
+      functions = record { section = 5; address = 0; section_offset = 16; slots = record { start = 0; len = 2 } } ∷ record { section = 5; address = 16; section_offset = 32; slots = record { start = 2; len = 2 } } ∷ [];
       relocations = rs;
       symbols = symbols;
     })
@@ -223,8 +224,8 @@ sections =
     record {
       types = no_row
           ∷ row kinds.DataSec 8 0 1
-          ∷ record { kind = kinds.DataSec; name_offset = 1; info = 0; size_or_type = 0; «data» = 0; start = 1; len = 2 }
-          ∷ record { kind = kinds.DataSec; name_offset = 1; info = 0; size_or_type = 0; «data» = 0; start = 3; len = 1 }
+          ∷ record { kind = kinds.DataSec; name_offset = 1; info = 0; size_or_type = 0; «data» = 0; parts = record { start = 1; len = 2 } }
+          ∷ record { kind = kinds.DataSec; name_offset = 1; info = 0; size_or_type = 0; «data» = 0; parts = record { start = 3; len = 1 } }
           ∷ row kinds.Var 8 0 0
           ∷ [];
       entries = entry 9 ∷ entry 4 ∷ entry 8 ∷ entry 7 ∷ [];
@@ -243,7 +244,7 @@ func_of type =
               ∷ row kinds.DataSec 1 0 1
               ∷ row kinds.Func 15 type 0
               ∷ row kinds.FuncProto 0 0 1
-              ∷ record { kind = kinds.FuncProto; name_offset = 0; info = 0; size_or_type = 0; «data» = 0; start = 1; len = 1 }
+              ∷ record { kind = kinds.FuncProto; name_offset = 0; info = 0; size_or_type = 0; «data» = 0; parts = record { start = 1; len = 1 } }
               ∷ int_row 0
               ∷ placeholder_row 5 8
               ∷ [];
@@ -275,8 +276,8 @@ card_fixed int more types more_strings header =
       tables = record {
         types = no_row
             ∷ row kinds.DataSec 1 4 1
-            ∷ record { kind = kinds.Var; name_offset = 8; info = 0; size_or_type = int; «data» = 1; start = 0; len = 0 }
-            ∷ record { kind = kinds.Func; name_offset = 15; info = 201326594; size_or_type = 4; «data» = 0; start = 0; len = 0 }
+            ∷ record { kind = kinds.Var; name_offset = 8; info = 0; size_or_type = int; «data» = 1; parts = no_parts }
+            ∷ record { kind = kinds.Func; name_offset = 15; info = 201326594; size_or_type = 4; «data» = 0; parts = no_parts }
             ∷ row kinds.FuncProto 0 0 3
             ∷ more
             ∷ types;
@@ -407,8 +408,8 @@ pub record WorkedCases : Type 0 where
     tables = record {
       types = no_row
           ∷ row kinds.DataSec 1 8 2
-          ∷ record { kind = kinds.Var; name_offset = 8; info = 0; size_or_type = 6; «data» = 1; start = 0; len = 0 }
-          ∷ record { kind = kinds.Func; name_offset = 15; info = 201326593; size_or_type = 4; «data» = 0; start = 0; len = 0 }
+          ∷ record { kind = kinds.Var; name_offset = 8; info = 0; size_or_type = 6; «data» = 1; parts = no_parts }
+          ∷ record { kind = kinds.Func; name_offset = 15; info = 201326593; size_or_type = 4; «data» = 0; parts = no_parts }
           ∷ row kinds.FuncProto 0 0 3
           ∷ long
           ∷ int_row 26

@@ -4,7 +4,8 @@ use Rattle.std.specs.Str.{bytes_eq}
 use Rattle.model.specs.Chain.{type_at}
 use Rattle.model.specs.Kinds.{is_func}
 use Rattle.model.specs.Lists.{lookup}
-use Rattle.model.specs.Names.{part, essential}
+use Rattle.model.specs.Names.{essential}
+use Rattle.model.specs.Spans.{part}
 use Rattle.model.specs.Tables.{Tables}
 use Rattle.model.specs.declared.rows.ExternDesc.{ExternDesc}
 use Rattle.model.specs.declared.rows.Span.{Span}

@@ -7,6 +7,7 @@ use Rattle.model.specs.Chain.{type_at}
 use Rattle.model.specs.Collect.{section_of}
 use Rattle.model.specs.Externs.{Extern, Object}
 use Rattle.model.specs.Kinds.{is_func, is_func_proto}
+use Rattle.model.specs.Spans.{part, end_of}
 use Rattle.model.specs.Tables.{Tables}
 use Rattle.model.specs.declared.btf.BtfType.{BtfType}
 use Rattle.model.specs.declared.btf.DataSecEntry.{DataSecEntry}
@@ -23,17 +24,17 @@ int_of None ts = first_int ts
 -- a Func becomes global
 abbrev pub global_func : BtfType → BtfType
 global_func t =
-    record { kind = t.kind; name_offset = t.name_offset; info = with_linkage BTF_FUNC_GLOBAL t.info; size_or_type = t.size_or_type; «data» = t.«data»; start = t.start; len = t.len }
+    record { kind = t.kind; name_offset = t.name_offset; info = with_linkage BTF_FUNC_GLOBAL t.info; size_or_type = t.size_or_type; «data» = t.«data»; parts = t.parts }
 
 -- a Var becomes global, of the int row
 abbrev pub global_var : ℕ → BtfType → BtfType
 global_var int t =
-    record { kind = t.kind; name_offset = t.name_offset; info = t.info; size_or_type = int; «data» = BTF_VAR_GLOBAL; start = t.start; len = t.len }
+    record { kind = t.kind; name_offset = t.name_offset; info = t.info; size_or_type = int; «data» = BTF_VAR_GLOBAL; parts = t.parts }
 
 -- the section gets a size
 abbrev pub sized : ℕ → BtfType → BtfType
 sized n t =
-    record { kind = t.kind; name_offset = t.name_offset; info = t.info; size_or_type = n; «data» = t.«data»; start = t.start; len = t.len }
+    record { kind = t.kind; name_offset = t.name_offset; info = t.info; size_or_type = n; «data» = t.«data»; parts = t.parts }
 
 -- a parameter with a type and no name gets one
 abbrev pub named_param : ℕ → BtfParam → BtfParam
@@ -42,7 +43,7 @@ named_param name p = cond (not (p.btf_type == 0) && p.name_offset == 0) (record 
 -- each parameter of a FuncProto does
 abbrev pub named_params : ℕ → BtfType → List BtfParam → List BtfParam
 named_params name proto ps =
-    take proto.start ps ++ (map (named_param name) (take proto.len (drop proto.start ps)) ++ drop (proto.start + proto.len) ps)
+    take proto.parts.start ps ++ (map (named_param name) (part ps proto.parts) ++ drop (end_of proto.parts) ps)
 
 -- the entry i of the section is four bytes at 4 × i
 abbrev pub placed : ℕ → ℕ → DataSecEntry
@@ -86,8 +87,8 @@ fix_entries p int start (i ∷ is) t = fix_entries p int start is (fix_entry p i
 abbrev pub fix_section : Option ℕ → ℕ → ℕ → Tables → Tables
 fix_section p d int t =
     let row = type_at t.types d in
-    let u = fix_entries p int row.start (range_with_len 0 row.len) t in
-    with_rows (slice_set u.types d (sized (4 * row.len) (type_at u.types d))) u.entries u.params u
+    let u = fix_entries p int row.parts.start (range_with_len 0 row.parts.len) t in
+    with_rows (slice_set u.types d (sized (4 * row.parts.len) (type_at u.types d))) u.entries u.params u
 
 abbrev pub fix_found : Option ℕ → Result (Option ℕ) Reason → ℕ × Tables → Tables
 fix_found p (Err e) k = k.1

@@ -9,13 +9,13 @@ use Rattle.model.specs.Externs.{Extern, Object, extern_named}
 use Rattle.model.specs.Lines.{said}
 use Rattle.model.specs.Lines.Line.{line}
 use Rattle.model.specs.Lists.{In}
-use Rattle.model.specs.Names.{part}
 use Rattle.model.specs.Relocate.{Program, Taken, taken, slot_index, symbol_of, slot_at, is_load, extern_name}
 use Rattle.model.specs.Resolve.{candidate, strong_typed}
 use Rattle.model.specs.Runs.{State, Step, brings_fit, refusal, granted, next, runs}
 use Rattle.model.specs.Runs.Step.{resolve, fixup, relocate}
 use Rattle.model.specs.Slots.{slots, low, high, loads}
 use Rattle.model.specs.Slots.Loaded.{immediate}
+use Rattle.model.specs.Spans.{part}
 use Rattle.model.specs.Tables.{Tables, Symbols, Catalogue, catalogue_fits}
 use Rattle.model.specs.declared.refusal.Reason.{Reason}
 use Rattle.model.specs.declared.refusal.Reason.TheVariants.{InvalidTable}

@@ -2,8 +2,8 @@
 use Rattle.std.specs.Prelude.{ℕ, suc, ◌+◌, ◌-◌, ◌*◌, ◌/◌, ◌%◌, Bool, true, false, cond, not, ◌&&◌, List, [], ◌∷◌, ◌++◌, length, ℤ, pos, is_some, Some, None, Ok, Err, Option, Result, ◌==◌, nat_le, nat_lt, slice_index_or, slice_set}
 use Rattle.model.specs.Externs.{Extern, extern_named}
 use Rattle.model.specs.Lists.{all, ascends, earlier, lookup}
-use Rattle.model.specs.Names.{part}
 use Rattle.model.specs.Slots.{LOAD, CALL, BPF_PSEUDO_BTF_ID, BPF_PSEUDO_KFUNC_CALL, whole_slots, with_src, with_imm, signed, low, high}
+use Rattle.model.specs.Spans.{part, end_of}
 use Rattle.model.specs.Tables.{Symbols, MAX_ROWS, MAX_FUNCTIONS, MAX_SECTION_OFFSET, symbols_fit}
 use Rattle.model.specs.declared.rows.Span.{Span}
 use Rattle.model.specs.declared.rows.Symbol.{Symbol}
@@ -24,7 +24,7 @@ pub record Program : Type 0 where
 -- the functions' spans of slots, each from where the last one ended, the first at `at`, are among n slots
 abbrev pub functions_follow : ℕ → ℕ → List Function → Bool
 functions_follow at n [] = nat_le at n
-functions_follow at n (f ∷ fs) = f.start == at && functions_follow (at + f.len) n fs
+functions_follow at n (f ∷ fs) = f.slots.start == at && functions_follow (at + f.slots.len) n fs
 
 abbrev pub functions_fit : List Function → ℕ → Bool
 functions_fit fs n =
@@ -52,7 +52,7 @@ pub record Taken : Type 0 where
 
 abbrev pub points_into : Function → Relocation → Bool
 points_into f r =
-    (r.section == f.section) && (nat_le f.section_offset r.offset && nat_lt r.offset (f.section_offset + f.len * 8))
+    (r.section == f.section) && (nat_le f.section_offset r.offset && nat_lt r.offset (f.section_offset + f.slots.len * 8))
 
 abbrev pub taken_in : Function → ℕ → List Relocation → List Taken
 taken_in f n [] = []
@@ -69,10 +69,10 @@ on_slot t = (t.relocation.offset - t.function.section_offset) % 8 == 0
 
 -- the slot that it points at, and whether the function has a next one
 abbrev pub slot_index : Taken → ℕ
-slot_index t = t.function.start + (t.relocation.offset - t.function.section_offset) / 8
+slot_index t = t.function.slots.start + (t.relocation.offset - t.function.section_offset) / 8
 
 abbrev pub has_next : Taken → Bool
-has_next t = nat_lt (slot_index t + 1) (t.function.start + t.function.len)
+has_next t = nat_lt (slot_index t + 1) (end_of t.function.slots)
 
 -- ---- its symbol
 abbrev pub symbol_of : Symbols → Taken → Option (ℕ × Symbol)

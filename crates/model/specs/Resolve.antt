@@ -8,7 +8,8 @@ use Rattle.model.specs.Externs.{Extern, whole_name, essential_name, resolved_to,
 use Rattle.model.specs.Lines.{Line, said, first_address}
 use Rattle.model.specs.Lines.Line.{line, short}
 use Rattle.model.specs.Lists.{any, lookup, or_else, first}
-use Rattle.model.specs.Names.{part, essential}
+use Rattle.model.specs.Names.{essential}
+use Rattle.model.specs.Spans.{part}
 use Rattle.model.specs.Tables.{Catalogue}
 use Rattle.model.specs.declared.rows.CatalogueKind.{CatalogueKind}
 use Rattle.model.specs.declared.rows.CatalogueKind.TheVariants as catalogued

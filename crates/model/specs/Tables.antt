@@ -3,7 +3,7 @@ use Rattle.std.specs.Prelude.{ℕ, ◌+◌, Bool, true, false, cond, ◌&&◌, �
 use Rattle.std.specs.Option.{option_map}
 use Rattle.model.specs.Kinds.{of_kind, is_func_proto, is_data_sec}
 use Rattle.model.specs.Lists.{all, ascends}
-use Rattle.model.specs.Names.{part, inside}
+use Rattle.model.specs.Spans.{part, inside}
 use Rattle.model.specs.declared.btf.BtfType.{BtfType}
 use Rattle.model.specs.declared.btf.DataSecEntry.{DataSecEntry}
 use Rattle.model.specs.declared.btf.BtfParam.{BtfParam}
@@ -44,11 +44,11 @@ void_first (t ∷ ts) = of_kind 0 t
 -- the span of each row of a kind starts where the last one ended, the first at `at`, and the last ends inside a table of n rows
 abbrev pub spans_follow : ℕ → ℕ → List BtfType → ℕ → Bool
 spans_follow k at [] n = nat_le at n
-spans_follow k at (t ∷ ts) n = cond (of_kind k t) (t.start == at && spans_follow k (at + t.len) ts n) (spans_follow k at ts n)
+spans_follow k at (t ∷ ts) n = cond (of_kind k t) (t.parts.start == at && spans_follow k (at + t.parts.len) ts n) (spans_follow k at ts n)
 
 -- a row that is no DataSec and no FuncProto has no parts
 abbrev pub parts_fit : BtfType → Bool
-parts_fit t = (is_data_sec t || is_func_proto t) || t.len == 0
+parts_fit t = (is_data_sec t || is_func_proto t) || t.parts.len == 0
 
 abbrev pub few : Tables → Bool
 few t =

@@ -1,5 +1,7 @@
 // The rows of an object's BTF.
 
+use crate::rows::Span;
+
 /// The kind of a type row, numbered from 0 as in the kernel's BTF documentation.
 #[derive(Clone, Copy)]
 pub enum BtfKind {
@@ -38,10 +40,8 @@ pub struct BtfType {
     pub size_or_type: u32,
     /// An Int's encoding, offset and bits; a Var's linkage.
     pub data: u32,
-    /// The first section entry of a DataSec, or parameter of a FuncProto.
-    pub start: u32,
-    /// How many section entries or parameters there are.
-    pub len: u32,
+    /// The section entries of a DataSec, or the parameters of a FuncProto.
+    pub parts: Span,
 }
 
 /// An entry of a DataSec: where a variable stands in its section.

@@ -1,11 +1,11 @@
 // The rows of symbols, of a catalogue, of externs and of a program.
 
-/// A part of a table of bytes.
+/// A part of a table: bytes of names, section entries, parameters or instruction slots.
 #[derive(Clone, Copy)]
 pub struct Span {
-    /// The index of the first byte.
+    /// Its first row.
     pub start: usize,
-    /// How many bytes there are.
+    /// How many rows it has.
     pub len: usize,
 }
 
@@ -86,10 +86,8 @@ pub struct Function {
     pub address: u64,
     /// Where it begins in the section, in bytes, as relocations count.
     pub section_offset: u64,
-    /// Its first slot.
-    pub start: usize,
-    /// How many slots it has.
-    pub len: usize,
+    /// Its slots.
+    pub slots: Span,
 }
 
 /// A place in a section that refers to a symbol.
