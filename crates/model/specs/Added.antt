@@ -26,10 +26,8 @@ placeholder_name = codes "ksym_func_placeholder\0"
 -- ---- the tables with one row more, whose name is added to the strings
 abbrev pub added : (ℕ → BtfType) → List ℕ → Tables → Tables
 added row name t =
-    record {
+    record t {
       types = t.types ++ row (length t.strings) ∷ [];
-      entries = t.entries;
-      params = t.params;
       strings = t.strings ++ name;
       header = record { type_len = t.header.type_len + ROW_BYTES; str_off = t.header.str_off + ROW_BYTES; str_len = length (t.strings ++ name) };
     }

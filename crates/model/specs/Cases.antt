@@ -292,14 +292,13 @@ card_fixed int more types more_strings header =
 
 -- the tables, but the header
 abbrev pub with_header : ℕ → ℕ → Tables → Tables
-with_header types at t =
-    record { types = t.types; entries = t.entries; params = t.params; strings = t.strings; header = record { type_len = types; str_off = at; str_len = 26 } }
+with_header types at t = record t { header = record { type_len = types; str_off = at; str_len = 26 } }
 
 abbrev pub with_strings : List ℕ → Tables → Tables
-with_strings ss t = record { types = t.types; entries = t.entries; params = t.params; strings = ss; header = t.header }
+with_strings ss t = record t { strings = ss }
 
 abbrev pub with_types : List BtfType → Tables → Tables
-with_types ts t = record { types = ts; entries = t.entries; params = t.params; strings = t.strings; header = t.header }
+with_types ts t = record t { types = ts }
 
 pub record WorkedCases : Type 0 where
   -- chains of types

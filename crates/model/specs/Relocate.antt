@@ -103,7 +103,7 @@ is_load s = s.code == LOAD
 
 -- a call with an id
 abbrev pub kernel_call : ℕ → Slot → Slot
-kernel_call id s = record { code = s.code; regs = (with_src BPF_PSEUDO_KFUNC_CALL s).regs; off = pos 0; imm = signed id }
+kernel_call id s = record (with_src BPF_PSEUDO_KFUNC_CALL s) { off = pos 0; imm = signed id }
 
 -- a weak call without one: the immediate is 2002000000 plus the symbol's number, and wraps in 32 signed bits
 abbrev pub POISON_CALL_KFUNC_BASE : ℕ
