@@ -17,7 +17,7 @@ use Rattle.model.specs.Runs.{granted}
 use Rattle.model.specs.Runs.Step.{fixup}
 use Rattle.model.specs.Spans.{part, end_of, Outside}
 use Rattle.model.specs.StepLaws.{NotOf, Leaves, param_at, FixupLeavesOtherRows}
-use Rattle.model.specs.Tables.{Tables, MAX_EXTERNS, tables_fit}
+use Rattle.model.specs.Tables.{Tables, MAX_EXTERNS, parts_of, tables_fit}
 use Rattle.model.specs.declared.btf.BtfType.{BtfType}
 use Rattle.model.specs.declared.btf.BtfParam.{BtfParam}
 use Rattle.model.specs.declared.btf.DataSecEntry.{DataSecEntry}
@@ -25,7 +25,8 @@ use Rattle.model.specs.declared.refusal.Reason.{Reason}
 use Rattle.model.specs.declared.rows.Span.{Span}
 use Rattle.model.proofs.Lookups.{some_not, some_same, ok_same}
 use Rattle.model.proofs.Tested.{collected_test, collected_is_tested}
-use Rattle.model.proofs.Grown.{Shape, shape_same, alike_length, alike_at, alike_set, Fits, fits_is, is_fit, Rewritten, rewritten_same, rewritten_on, rewritten_fits, rewritten_section, Longer, longer_section, longer_entries, longer_name, longer_at, Declared, declared_is, is_declared, longer_declared, section_is, span_inside, first_below, int_longer, int_below, int_fits}
+use Rattle.model.proofs.Followed.{follow_in}
+use Rattle.model.proofs.Grown.{Shape, shape_same, alike_length, alike_at, alike_set, Fits, fits_is, is_fit, Rewritten, rewritten_same, rewritten_on, rewritten_fits, rewritten_section, Longer, longer_section, longer_entries, longer_name, longer_at, Declared, declared_is, is_declared, longer_declared, section_is, parts_in, first_below, int_longer, int_below, int_fits}
 
 -- ---- lists
 -- what stands in a list where one place was set
@@ -327,7 +328,7 @@ module _ (o : Object) (c : Collected o) where
 
   pub one_fits : Fits o.tables → end_of (type_at with_one.1.types c.section).parts ≤ length with_one.1.entries
   one_fits f =
-      let a = span_inside 15 (length o.tables.entries) 0 o.tables.types f.sections c.section found_row.0 found_row.1 in
+      let a = follow_in (length o.tables.entries) 0 (parts_of 15 o.tables.types) f.sections _ (parts_in 15 o.tables.types c.section found_row.0 found_row.1) in
       let b : length with_one.1.entries ≡ length o.tables.entries = ap length one_longer.entries in
       subst (λ (r : BtfType). end_of r.parts ≤ length with_one.1.entries) (sym one_row) (omega arith)
 

@@ -3,16 +3,16 @@ use Rattle.std.proofs.Common.{◌≡◌, ℕ, zero, suc, ◌+◌, ◌<◌, ◌�
 use Rattle.std.specs.Option.{option_map}
 use Rattle.std.specs.Str.{bytes_eq}
 use Rattle.std.proofs.lemmas.List.{append-nil, append_assoc, length-append, length_push, get_or_append_left, drop-append-le, at_drop_all}
-use Rattle.std.proofs.lemmas.Bool.{false≢true, cases_Bool, cases_lt, cond-true, cond-false, and_parts, and_from, ltb-true, lt-ltb, leb-true, le-leb, eqb-true}
+use Rattle.std.proofs.lemmas.Bool.{false≢true, cases_Bool, cases_lt, cond-true, cond-false, cond_both, and_parts, and_from, ltb-true, lt-ltb, leb-true, le-leb}
 use Rattle.model.specs.Chain.{no_row, type_at}
 use Rattle.model.specs.Added.{added, int_row, placeholder_row, int_name, placeholder_name, is_int_of_four, first_int, with_int, with_placeholder, room_for, room_for_int, room_for_placeholder}
 use Rattle.model.specs.Collect.{section_here, section_from, section_of, entries_of}
 use Rattle.model.specs.Collected.{declares}
 use Rattle.model.specs.Kinds.{kind_number, of_kind, is_func, is_var, is_data_sec}
-use Rattle.model.specs.Lists.{all, lookup, number_of}
+use Rattle.model.specs.Lists.{In, all, lookup, number_of}
 use Rattle.model.specs.Names.{to_zero, name_at}
-use Rattle.model.specs.Spans.{part, end_of}
-use Rattle.model.specs.Tables.{Tables, MAX_ROWS, MAX_NAMES, void_first, spans_follow, parts_fit, few, tables_fit}
+use Rattle.model.specs.Spans.{part, follow}
+use Rattle.model.specs.Tables.{Tables, MAX_ROWS, MAX_NAMES, void_first, parts_of, parts_fit, few, tables_fit}
 use Rattle.model.specs.declared.btf.BtfType.{BtfType}
 use Rattle.model.specs.declared.refusal.Reason.{Reason}
 use Rattle.model.proofs.Lookups.{some_not, some_same, ok_same, err_not}
@@ -84,14 +84,13 @@ alike_parts [] (u ∷ us) a = absurd a
 alike_parts (t ∷ ts) [] a = absurd a
 alike_parts (t ∷ ts) (u ∷ us) a = λ i. parts_same t u a.0 i && alike_parts ts us a.1 i
 
-pub alike_spans : (k at n : ℕ) (ts us : List BtfType) → Alike ts us → spans_follow k at us n ≡ spans_follow k at ts n
-alike_spans k at n [] [] a = refl
-alike_spans k at n [] (u ∷ us) a = absurd a
-alike_spans k at n (t ∷ ts) [] a = absurd a
-alike_spans k at n (t ∷ ts) (u ∷ us) a =
+pub alike_spans : (k : ℕ) (ts us : List BtfType) → Alike ts us → parts_of k us ≡ parts_of k ts
+alike_spans k [] [] a = refl
+alike_spans k [] (u ∷ us) a = absurd a
+alike_spans k (t ∷ ts) [] a = absurd a
+alike_spans k (t ∷ ts) (u ∷ us) a =
     let s = a.0 in
-    (λ i. cond (kind_same k t u s i) (eqb (s.parts i).start at && spans_follow k (at + (s.parts i).len) us n) (spans_follow k at us n))
-    ∙ (λ i. cond (of_kind k t) (eqb t.parts.start at && alike_spans k (at + t.parts.len) n ts us a.1 i) (alike_spans k at n ts us a.1 i))
+    let rest = alike_spans k ts us a.1 in λ i. cond (kind_same k t u s i) (s.parts i ∷ rest i) (rest i)
 
 pub alike_section : (strings : List ℕ) (i : ℕ) (ts us : List BtfType) → Alike ts us → section_from strings i us ≡ section_from strings i ts
 alike_section strings i [] [] a = refl
@@ -103,9 +102,9 @@ alike_section strings i (t ∷ ts) (u ∷ us) a =
     ∙ (λ j. cond (is_data_sec t) (section_here (name_at strings t.name_offset) i (alike_section strings (suc i) ts us a.1 j)) (alike_section strings (suc i) ts us a.1 j))
 
 -- ---- a row more
-pub spans_push : (k at n : ℕ) (ts : List BtfType) (u : BtfType) → of_kind k u ≡ false → spans_follow k at (ts ++ u ∷ []) n ≡ spans_follow k at ts n
-spans_push k at n [] u o = cond-false (of_kind k u) _ _ o
-spans_push k at n (t ∷ ts) u o = λ i. cond (of_kind k t) (eqb t.parts.start at && spans_push k (at + t.parts.len) n ts u o i) (spans_push k at n ts u o i)
+pub spans_push : (k : ℕ) (ts : List BtfType) (u : BtfType) → of_kind k u ≡ false → parts_of k (ts ++ u ∷ []) ≡ parts_of k ts
+spans_push k [] u o = cond-false (of_kind k u) _ _ o
+spans_push k (t ∷ ts) u o = let rest = spans_push k ts u o in λ i. cond (of_kind k t) (t.parts ∷ rest i) (rest i)
 
 pub void_push : (ts us : List BtfType) → void_first ts ≡ true → void_first (ts ++ us) ≡ true
 void_push [] us h = absurd (false≢true h)
@@ -180,34 +179,13 @@ section_is strings ts d h =
     let s : r.0 ≡ d = omega (arith, r.1) in
     subst (λ k. (k < length ts) × (is_data_sec (type_at ts k) ≡ true)) s (r.2, r.3)
 
--- ---- each span lies inside the table
-module _ (c n : ℕ) where
-  span_parts : (at : ℕ) (t : BtfType) (ts : List BtfType) → of_kind c t ≡ true → spans_follow c at (t ∷ ts) n ≡ true
-      → (t.parts.start ≡ at) × (spans_follow c (at + t.parts.len) ts n ≡ true)
-  span_parts at t ts s h = let p = and_parts _ _ (sym (cond-true _ _ _ s) ∙ h) in (eqb-true t.parts.start at p.0, p.1)
-
-  span_other : (at : ℕ) (t : BtfType) (ts : List BtfType) → of_kind c t ≡ false → spans_follow c at (t ∷ ts) n ≡ true → spans_follow c at ts n ≡ true
-  span_other at t ts s h = sym (cond-false _ _ _ s) ∙ h
-
-  end_inside : (at : ℕ) (ts : List BtfType) → spans_follow c at ts n ≡ true → at ≤ n
-  end_inside at [] h = leb-true at n h
-  end_inside at (t ∷ ts) h =
-      ⊎_elim
-      (λ (s : of_kind c t ≡ true). let i = end_inside (at + t.parts.len) ts (span_parts at t ts s h).1 in omega (arith, i))
-      (λ (s : of_kind c t ≡ false). end_inside at ts (span_other at t ts s h)) (cases_Bool (of_kind c t))
-
-  pub span_inside : (at : ℕ) (ts : List BtfType) → spans_follow c at ts n ≡ true → (d : ℕ) → d < length ts → of_kind c (type_at ts d) ≡ true
-      → end_of (type_at ts d).parts ≤ n
-  span_inside at [] h d lt s = absurd (omega arith)
-  span_inside at (t ∷ ts) h zero lt s =
-      let p = span_parts at t ts s h in
-      let i = end_inside (at + t.parts.len) ts p.1 in
-      let e = p.0 in
-      omega arith
-  span_inside at (t ∷ ts) h (suc d) lt s =
-      ⊎_elim
-      (λ (e : of_kind c t ≡ true). span_inside (at + t.parts.len) ts (span_parts at t ts e h).1 d (omega arith) s)
-      (λ (e : of_kind c t ≡ false). span_inside at ts (span_other at t ts e h) d (omega arith) s) (cases_Bool (of_kind c t))
+-- ---- the parts of a row of a kind
+pub parts_in : (k : ℕ) (ts : List BtfType) (d : ℕ) → d < length ts → of_kind k (type_at ts d) ≡ true → In (type_at ts d).parts (parts_of k ts)
+parts_in k [] d lt s = absurd (omega arith)
+parts_in k (t ∷ ts) zero lt s = subst (In t.parts) (sym (cond-true (of_kind k t) (t.parts ∷ parts_of k ts) (parts_of k ts) s)) (inl refl)
+parts_in k (t ∷ ts) (suc d) lt s =
+    let rest = parts_in k ts d (omega arith) s in
+    cond_both (of_kind k t) (t.parts ∷ parts_of k ts) (parts_of k ts) (In (type_at ts d).parts) (λ e. inr rest) (λ e. rest)
 
 -- ---- well-formed tables, part by part
 pub record Fits (t : Tables) : Type 0 where
@@ -217,8 +195,8 @@ pub record Fits (t : Tables) : Type 0 where
   pub strings : length t.strings ≤ MAX_NAMES
   pub void : void_first t.types ≡ true
   pub parts : all parts_fit t.types ≡ true
-  pub sections : spans_follow 15 0 t.types (length t.entries) ≡ true
-  pub protos : spans_follow 13 0 t.types (length t.params) ≡ true
+  pub sections : follow 0 (parts_of 15 t.types) (length t.entries) ≡ true
+  pub protos : follow 0 (parts_of 13 t.types) (length t.params) ≡ true
 
 pub fits_is : (t : Tables) → tables_fit t ≡ true → Fits t
 fits_is t h =
@@ -228,7 +206,7 @@ fits_is t h =
     let k = and_parts (leb (length t.params) MAX_ROWS) _ g.1 in
     let b = and_parts (void_first t.types) _ a.1 in
     let c = and_parts (all parts_fit t.types) _ b.1 in
-    let d = and_parts (spans_follow 15 0 t.types (length t.entries)) _ c.1 in
+    let d = and_parts (follow 0 (parts_of 15 t.types) (length t.entries)) _ c.1 in
     record {
       types = leb-true _ _ f.0;
       entries = leb-true _ _ g.0;
@@ -247,7 +225,7 @@ is_fit t f =
     (and_from (leb (length t.entries) MAX_ROWS) _ (le-leb _ _ f.entries)
     (and_from (leb (length t.params) MAX_ROWS) _ (le-leb _ _ f.params) (le-leb _ _ f.strings))))
     (and_from (void_first t.types) _ f.void
-    (and_from (all parts_fit t.types) _ f.parts (and_from (spans_follow 15 0 t.types (length t.entries)) _ f.sections f.protos)))
+    (and_from (all parts_fit t.types) _ f.parts (and_from (follow 0 (parts_of 15 t.types) (length t.entries)) _ f.sections f.protos)))
 
 -- rows rewritten in their shape, entries and parameters as many as before, and the strings
 pub record Rewritten (t u : Tables) : Type 0 where
@@ -287,8 +265,8 @@ rewritten_fits t u r f =
       strings = omega arith;
       void = alike_void t.types u.types r.types ∙ f.void;
       parts = alike_parts t.types u.types r.types ∙ f.parts;
-      sections = ap (spans_follow 15 0 u.types) e ∙ alike_spans 15 0 (length t.entries) t.types u.types r.types ∙ f.sections;
-      protos = ap (spans_follow 13 0 u.types) p ∙ alike_spans 13 0 (length t.params) t.types u.types r.types ∙ f.protos;
+      sections = (λ i. follow 0 (alike_spans 15 t.types u.types r.types i) (e i)) ∙ f.sections;
+      protos = (λ i. follow 0 (alike_spans 13 t.types u.types r.types i) (p i)) ∙ f.protos;
     }
 
 pub rewritten_section : (t u : Tables) → Rewritten t u → section_of u ≡ section_of t
@@ -313,8 +291,8 @@ added_fits row name t p a b f =
       strings = omega arith;
       void = void_push t.types _ f.void;
       parts = parts_push t.types u f.parts p.parts;
-      sections = spans_push 15 0 _ t.types u p.section ∙ f.sections;
-      protos = spans_push 13 0 _ t.types u p.proto ∙ f.protos;
+      sections = ap (λ ss. follow 0 ss (length t.entries)) (spans_push 15 t.types u p.section) ∙ f.sections;
+      protos = ap (λ ss. follow 0 ss (length t.params)) (spans_push 13 t.types u p.proto) ∙ f.protos;
     }
 
 -- ---- longer tables

@@ -1,15 +1,15 @@
 -- What relocation makes of the slots, and of a load's two slots.
-use Rattle.std.proofs.Common.{◌≡◌, ℕ, suc, ◌+◌, ◌<◌, ◌≤◌, Bool, true, false, cond, eqb, ◌⊎◌, List, [], ◌∷◌, ◌++◌, length, set, ℤ, pos, is_some, Some, None, Ok, Err, Option, Result, sym, refl, ap, ◌∙◌, subst, inl, inr, ⊎_elim, arith, w16, w32, SFits}
+use Rattle.std.proofs.Common.{◌≡◌, ℕ, suc, ◌+◌, ◌<◌, Bool, true, false, cond, eqb, ◌⊎◌, List, [], ◌∷◌, ◌++◌, length, set, ℤ, pos, is_some, Some, None, Ok, Err, Option, Result, sym, refl, ap, ◌∙◌, subst, inl, inr, ⊎_elim, arith, w16, w32, SFits}
 use borrow.Author.Gap.{read_sfits}
 use Rattle.std.proofs.lemmas.List.{length-set, get_or-set_same, get_or-set_other, set_past}
-use Rattle.std.proofs.lemmas.Bool.{cond-true, cond-false, cond_both, cases_Bool, cases_eq, cases_lt, eqb-true, ltb-true, leb-true, and_parts}
+use Rattle.std.proofs.lemmas.Bool.{cond-true, cond-false, cond_both, cases_Bool, cases_eq, cases_lt, eqb-true, ltb-true}
 use Rattle.model.specs.Externs.{Extern, extern_named}
 use Rattle.model.specs.Laws.{name_in, name_of, Touches, LoadAlone}
 use Rattle.model.specs.Lists.{In}
-use Rattle.model.specs.Relocate.{Program, Taken, taken, taken_in, points_into, functions_follow, on_slot, slot_index, has_next, symbol_of, slot_at, is_call, is_load, call_slot, load_value, with_call, with_pair, with_load, patch_extern, patch_found, patch_name, patch_symbol, patch, patched, relocated, extern_name}
+use Rattle.model.specs.Relocate.{Program, slots_of, Taken, taken, taken_in, points_into, on_slot, slot_index, has_next, symbol_of, slot_at, is_call, is_load, call_slot, load_value, with_call, with_pair, with_load, patch_extern, patch_found, patch_name, patch_symbol, patch, patched, relocated, extern_name}
 use Rattle.model.specs.SlotLaws.{FitsSlot}
 use Rattle.model.specs.Slots.{LOAD, CALL, low, high, with_imm, with_src}
-use Rattle.model.specs.Spans.{part, end_of}
+use Rattle.model.specs.Spans.{part, follow}
 use Rattle.model.specs.Tables.{Symbols}
 use Rattle.model.specs.declared.refusal.Reason.{Reason}
 use Rattle.model.specs.declared.rows.Function.{Function}
@@ -17,6 +17,7 @@ use Rattle.model.specs.declared.rows.Relocation.{Relocation}
 use Rattle.model.specs.declared.rows.Slot.{Slot}
 use Rattle.model.specs.declared.rows.Span.{Span}
 use Rattle.model.specs.declared.rows.Symbol.{Symbol}
+use Rattle.model.proofs.Followed.{follow_in}
 use Rattle.model.proofs.Granted.{go_on}
 use Rattle.model.proofs.Lookups.{some_not, ok_same, err_not}
 
@@ -42,19 +43,10 @@ taken_of : (fs : List Function) (rs : List Relocation) (t : Taken) → In t (tak
 taken_of [] rs t i = absurd i
 taken_of (f ∷ fs) rs t i = ⊎_elim (λ j. inl (taken_in_of f 0 rs t j)) (λ j. inr (taken_of fs rs t j)) (in_append (taken_in f 0 rs) (taken fs rs) t i)
 
-follow_le : (at n : ℕ) (fs : List Function) → functions_follow at n fs ≡ true → at ≤ n
-follow_le at n [] h = leb-true at n h
-follow_le at n (f ∷ fs) h = let k = follow_le (at + f.slots.len) n fs (and_parts (eqb f.slots.start at) (functions_follow (at + f.slots.len) n fs) h).1 in omega arith
-
-follow_in : (at n : ℕ) (fs : List Function) (f : Function) → functions_follow at n fs ≡ true → In f fs → end_of f.slots ≤ n
-follow_in at n [] f h i = absurd i
-follow_in at n (g ∷ fs) f h (inl q) =
-    let p = and_parts (eqb g.slots.start at) _ h in
-    let s = eqb-true g.slots.start at p.0 in
-    let k = follow_le (at + g.slots.len) n fs p.1 in
-    let e : end_of g.slots ≤ n = omega arith in
-    subst (λ x. end_of x.slots ≤ n) q e
-follow_in at n (g ∷ fs) f h (inr i) = follow_in (at + g.slots.len) n fs f (and_parts _ _ h).1 i
+slots_in : (fs : List Function) (f : Function) → In f fs → In f.slots (slots_of fs)
+slots_in [] f i = absurd i
+slots_in (g ∷ fs) f (inl e) = inl (ap (λ f. f.slots) e)
+slots_in (g ∷ fs) f (inr i) = inr (slots_in fs f i)
 
 -- ---- what one relocation changes
 abbrev pub EachFits : List Slot → Type 0
@@ -305,19 +297,19 @@ pub loads_hold :
     → extern_named n xs ≡ Some k
     → k.1.id ≡ None
     → k.1.address ≡ Some a
-    → functions_follow 0 (length code) p.functions ≡ true
+    → follow 0 (slots_of p.functions) (length code) ≡ true
     → (relocated xs p code).1 ≡ None
     → (front : List Taken) (t : Taken) (back : List Taken)
     → taken p.functions p.relocations ≡ front ++ t ∷ back
     → LoadAlone n p.symbols code front t back
     → (here : List Slot) × Paired (relocated xs p code).0 here (slot_index t) a
-loads_hold xs p code n a k row id address follow g front t back split alone =
+loads_hold xs p code n a k row id address spans g front t back split alone =
     let ss = p.symbols in
     let h : (patched xs ss (front ++ t ∷ back) code).1 ≡ None = ap (λ ts. (patched xs ss ts code).1) (sym split) ∙ g in
     let r = reached xs ss code front t back code (record { size = refl; same = λ _. refl }) h in
     let s = r.step in
     let l = load_new xs ss t r.here s.new alone.place a k s.ok alone.symbol (ap (λ m. extern_named m xs) alone.name ∙ row) id address (ap (λ c. eqb c LOAD) (r.same.same (slot_index t)) ∙ alone.load) in
-    let span = follow_in 0 (length code) p.functions t.function follow (taken_of p.functions p.relocations t (subst (In t) (sym split) (in_right front (t ∷ back) t (inl refl)))) in
+    let span = follow_in (length code) 0 (slots_of p.functions) spans _ (slots_in p.functions t.function (taken_of p.functions p.relocations t (subst (In t) (sym split) (in_right front (t ∷ back) t (inl refl))))) in
     let room : slot_index t + 1 < length r.here = subst (λ m. slot_index t + 1 < m) (sym r.same.size) (let x = ltb-true _ _ l.0 in omega arith) in
     let b = pair_holds r.here (slot_index t) a room in
     let codes = codes_more xs ss code r.here s.new t r.same s.ok in

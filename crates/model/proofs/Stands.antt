@@ -11,11 +11,12 @@ use Rattle.model.specs.Laws.{Lists, address_in, address_of, Holds, LoadsHold, St
 use Rattle.model.specs.Lines.{Line, said, first_address}
 use Rattle.model.specs.Lines.Line.{line, short}
 use Rattle.model.specs.Lists.{In, all, ascends, lookup}
-use Rattle.model.specs.Relocate.{Program, code_fits, relocations_fit, functions_fit, functions_follow, program_fits, slot_at, slot_index}
+use Rattle.model.specs.Relocate.{Program, slots_of, code_fits, relocations_fit, functions_fit, program_fits, slot_at, slot_index}
 use Rattle.model.specs.Resolve.{fitting_id, wanted, given_id, settled, given}
 use Rattle.model.specs.Runs.{State, Step, granted, next, runs}
 use Rattle.model.specs.Runs.Step.{resolve, fixup, relocate}
 use Rattle.model.specs.Slots.{slots, loads, low, with_imm, with_src}
+use Rattle.model.specs.Spans.{follow}
 use Rattle.model.specs.Tables.{Catalogue, MAX_FUNCTIONS, symbols_fit}
 use Rattle.model.specs.declared.rows.Function.{Function}
 use Rattle.model.specs.declared.rows.Slot.{Slot}
@@ -97,10 +98,10 @@ held new old i a l p =
       loaded = ap (λ s. loads s (slot_at new (i + 1))) p.first ∙ ap (λ s. loads (with_imm (low a) (with_src 0 (slot_at old i))) s) p.second ∙ loads_hold_their_value.address a (slot_at old i) (slot_at old (i + 1)) l;
     }
 
-follow_from : (fs : List Function) (n : ℕ) → functions_fit fs n ≡ true → functions_follow 0 n fs ≡ true
-follow_from fs n h = (and_parts (ascends _ fs) (functions_follow 0 n fs) (and_parts (all _ fs) _ (and_parts (leb (length fs) MAX_FUNCTIONS) _ h).1).1).1
+follow_from : (fs : List Function) (n : ℕ) → functions_fit fs n ≡ true → follow 0 (slots_of fs) n ≡ true
+follow_from fs n h = (and_parts (ascends _ fs) (follow 0 (slots_of fs) n) (and_parts (all _ fs) _ (and_parts (leb (length fs) MAX_FUNCTIONS) _ h).1).1).1
 
-program_follow : (p : Program) (bs : List ℕ) → program_fits p bs ≡ true → functions_follow 0 (length bs / 8) p.functions ≡ true
+program_follow : (p : Program) (bs : List ℕ) → program_fits p bs ≡ true → follow 0 (slots_of p.functions) (length bs / 8) ≡ true
 program_follow p bs h =
     follow_from p.functions (length bs / 8) (and_parts (relocations_fit p.relocations) _ (and_parts (symbols_fit p.symbols) _ (and_parts (code_fits bs) _ h).1).1).1
 
@@ -115,8 +116,8 @@ relocation_holds :
     → LoadsHold n a p (slots st.code) (slots (next (relocate p) st).code)
 relocation_holds st p n a k b l row id at g front t back split alone =
     let q = granted_parts (relocate p) st g in
-    let follow = program_follow p st.code (and_parts (object_fits st.object) (program_fits p st.code) q.0).1 in
-    let h = loads_hold st.object.externs p (slots st.code) n a k row id at (subst (λ m. functions_follow 0 m p.functions ≡ true) (sym (slots_length st.code)) follow) q.1 front t back split alone in
+    let spans = program_follow p st.code (and_parts (object_fits st.object) (program_fits p st.code) q.0).1 in
+    let h = loads_hold st.object.externs p (slots st.code) n a k row id at (subst (λ m. follow 0 (slots_of p.functions) m ≡ true) (sym (slots_length st.code)) spans) q.1 front t back split alone in
     subst (λ x. Holds x (slot_index t) a) (sym (relocated_slots p st b q.0)) (held _ h.0 (slot_index t) a l h.1)
 
 -- ---- the law, of externs that have no id yet

@@ -1,22 +1,23 @@
 -- The tests of the tables say exactly that the tables are well-formed.
-use Rattle.std.proofs.Common.{◌≡◌, ℕ, ◌+◌, ◌/◌, ◌%◌, ◌<◌, ◌≤◌, Bool, true, false, cond, ◌&&◌, ◌||◌, eqb, ltb, leb, ◌⊎◌, ◌↔◌, List, [], ◌∷◌, ◌++◌, length, Some, None, Option, sym, refl, ap, ◌∙◌, subst, inl, inr, ⊎_elim, arith}
-use Rattle.std.proofs.lemmas.Bool.{false≢true, cases_Bool, cond-true, cond-false, and_parts, and_from, or_left, or_right, or_from, or_parts, or_cases, ltb-true, lt-ltb, leb-true, le-leb, eqb-true, eq-eqb}
+use Rattle.std.proofs.Common.{◌≡◌, ℕ, ◌/◌, ◌%◌, ◌<◌, ◌≤◌, Bool, true, false, ◌&&◌, ◌||◌, eqb, ltb, leb, ◌⊎◌, ◌↔◌, List, [], ◌∷◌, ◌++◌, length, Some, None, Option, sym, refl, ap, ◌∙◌, subst, inl, inr, ⊎_elim, arith}
+use Rattle.std.proofs.lemmas.Bool.{false≢true, cases_Bool, and_parts, and_from, or_left, or_right, or_from, or_parts, or_cases, ltb-true, lt-ltb, leb-true, le-leb, eqb-true, eq-eqb}
 use Rattle.model.specs.Chain.{type_at}
 use Rattle.model.specs.Collected.{Collected, collected_if_any, object_fits}
 use Rattle.model.specs.Externs.{Extern, Object}
 use Rattle.model.specs.Kinds.{kind_number, of_kind, is_func_proto, is_data_sec}
 use Rattle.model.specs.Lists.{all, ascends, earlier}
-use Rattle.model.specs.Relocate.{Program, functions_follow, functions_fit, relocations_fit, code_fits, program_fits}
+use Rattle.model.specs.Relocate.{Program, slots_of, functions_fit, relocations_fit, code_fits, program_fits}
 use Rattle.model.specs.Slots.{whole_slots}
-use Rattle.model.specs.Spans.{inside, end_of}
-use Rattle.model.specs.TableLaws.{parts_of, SpansFollow, WellFormedTables, WellFormedObject, Before, WellFormedSymbols, WellFormedCatalogue, slots_of, WellFormedProgram, TablesAreTested}
-use Rattle.model.specs.Tables.{Tables, Symbols, Catalogue, MAX_ROWS, MAX_FUNCTIONS, MAX_NAMES, MAX_SECTION_OFFSET, MAX_EXTERNS, void_first, spans_follow, parts_fit, tables_fit, inside_if_any, symbols_fit, catalogue_fits}
+use Rattle.model.specs.Spans.{inside, end_of, follow}
+use Rattle.model.specs.TableLaws.{SpansFollow, WellFormedTables, WellFormedObject, Before, WellFormedSymbols, WellFormedCatalogue, WellFormedProgram, TablesAreTested}
+use Rattle.model.specs.Tables.{Tables, Symbols, Catalogue, MAX_ROWS, MAX_FUNCTIONS, MAX_NAMES, MAX_SECTION_OFFSET, MAX_EXTERNS, void_first, parts_of, parts_fit, tables_fit, inside_if_any, symbols_fit, catalogue_fits}
 use Rattle.model.specs.declared.btf.BtfType.{BtfType}
 use Rattle.model.specs.declared.rows.CatalogueRow.{CatalogueRow}
 use Rattle.model.specs.declared.rows.Function.{Function}
 use Rattle.model.specs.declared.rows.Relocation.{Relocation}
 use Rattle.model.specs.declared.rows.Span.{Span}
 use Rattle.model.specs.declared.rows.Symbol.{Symbol}
+use Rattle.model.proofs.Followed.{follow_is}
 use Rattle.model.proofs.Lookups.{all_in, in_all, some_not, some_same}
 use Rattle.model.proofs.Tested.{collected_test}
 use Rattle.model.proofs.Grown.{Fits, fits_is, is_fit}
@@ -71,77 +72,7 @@ keys_ascend key xs =
     ascends_is (λ x y. earlier (key x) (key y)) (λ x y. Before (key x) (key y)) (λ x y. earlier_is (key x) (key y)) (λ x y. is_earlier (key x) (key y))
     (λ x y z. before_on (key x) (key y) (key z)) xs
 
--- ---- spans that follow each other
--- a test of the spans of some rows, and how many parts those have together, by what they are of a list and of one with a row more
-module _ {X : Type 0} (counts : X → Bool) (start len : X → ℕ) (n : ℕ) (follow : ℕ → List X → Bool) (total : List X → ℕ)
-    (follow_none : (at : ℕ) → follow at [] ≡ leb at n)
-    (follow_more : (at : ℕ) (x : X) (xs : List X) → follow at (x ∷ xs) ≡ cond (counts x) (eqb (start x) at && follow (at + len x) xs) (follow at xs))
-    (total_none : total [] ≡ 0)
-    (total_more : (x : X) (xs : List X) → total (x ∷ xs) ≡ cond (counts x) (len x + total xs) (total xs)) where
-  counted : (at : ℕ) (x : X) (xs : List X) → counts x ≡ true → follow at (x ∷ xs) ≡ true → (start x ≡ at) × (follow (at + len x) xs ≡ true)
-  counted at x xs c h = let p = and_parts (eqb (start x) at) _ (sym (cond-true _ _ _ c) ∙ sym (follow_more at x xs) ∙ h) in (eqb-true (start x) at p.0, p.1)
-
-  passed : (at : ℕ) (x : X) (xs : List X) → counts x ≡ false → follow at (x ∷ xs) ≡ true → follow at xs ≡ true
-  passed at x xs c h = sym (cond-false _ _ _ c) ∙ sym (follow_more at x xs) ∙ h
-
-  total_counted : (x : X) (xs : List X) → counts x ≡ true → total (x ∷ xs) ≡ len x + total xs
-  total_counted x xs c = total_more x xs ∙ cond-true _ _ _ c
-
-  total_passed : (x : X) (xs : List X) → counts x ≡ false → total (x ∷ xs) ≡ total xs
-  total_passed x xs c = total_more x xs ∙ cond-false _ _ _ c
-
-  follow_split : (at : ℕ) (front : List X) (x : X) (back : List X) → counts x ≡ true → follow at (front ++ x ∷ back) ≡ true → start x ≡ at + total front
-  follow_split at [] x back c h = let s = (counted at x back c h).0 in let z = total_none in omega arith
-  follow_split at (f ∷ fs) x back c h =
-      ⊎_elim
-      (λ (t : counts f ≡ true).
-      let r = follow_split (at + len f) fs x back c (counted at f (fs ++ x ∷ back) t h).1 in let s = total_counted f fs t in omega arith)
-      (λ (t : counts f ≡ false). let r = follow_split at fs x back c (passed at f (fs ++ x ∷ back) t h) in let s = total_passed f fs t in omega arith) (cases_Bool (counts f))
-
-  follow_ends : (at : ℕ) (xs : List X) → follow at xs ≡ true → at + total xs ≤ n
-  follow_ends at [] h = let l = leb-true at n (sym (follow_none at) ∙ h) in let z = total_none in omega arith
-  follow_ends at (x ∷ xs) h =
-      ⊎_elim
-      (λ (t : counts x ≡ true). let r = follow_ends (at + len x) xs (counted at x xs t h).1 in let s = total_counted x xs t in omega arith)
-      (λ (t : counts x ≡ false). let r = follow_ends at xs (passed at x xs t h) in let s = total_passed x xs t in omega arith) (cases_Bool (counts x))
-
-  is_followed : (at : ℕ) (xs : List X) → ((front : List X) (x : X) (back : List X) → xs ≡ front ++ x ∷ back → counts x ≡ true → start x ≡ at + total front)
-      → at + total xs ≤ n → follow at xs ≡ true
-  is_followed at [] h l = follow_none at ∙ le-leb at n (let z = total_none in omega arith)
-  is_followed at (x ∷ xs) h l =
-      ⊎_elim
-      (λ (t : counts x ≡ true).
-      let s = total_counted x xs t in
-      let z = total_none in
-      let b = h [] x xs refl t in
-      follow_more at x xs ∙ cond-true _ _ _ t
-      ∙ and_from (eqb (start x) at) _ (eq-eqb (start x) at (omega arith))
-      (is_followed (at + len x) xs
-      (λ front y back e c. let r = h (x ∷ front) y back (ap (λ zs. x ∷ zs) e) c in let m = total_counted x front t in omega arith) (omega arith)))
-      (λ (t : counts x ≡ false).
-      let s = total_passed x xs t in
-      follow_more at x xs ∙ cond-false _ _ _ t
-      ∙ is_followed at xs
-      (λ front y back e c. let r = h (x ∷ front) y back (ap (λ zs. x ∷ zs) e) c in let m = total_passed x front t in omega arith) (omega arith))
-      (cases_Bool (counts x))
-
-  -- the test says that each span starts where those before it end, and the last one ends inside
-  follow_is : (xs : List X) → (follow 0 xs ≡ true) ↔ (((front : List X) (x : X) (back : List X) → xs ≡ front ++ x ∷ back → counts x ≡ true → start x ≡ total front) × (total xs ≤ n))
-  follow_is xs = (
-    (λ h.
-        let l = follow_ends 0 xs h in ((λ front x back e c. let s = follow_split 0 front x back c (ap (follow 0) (sym e) ∙ h) in omega arith), omega arith)),
-    λ h. let l = h.1 in is_followed 0 xs (λ front x back e c. let s = h.0 front x back e c in omega arith) (omega arith),
-  )
-
 -- ---- a BTF
-spans_are : (k n : ℕ) (ts : List BtfType) → (spans_follow k 0 ts n ≡ true) ↔ SpansFollow k ts n
-spans_are k n ts =
-    let both = follow_is (of_kind k) (λ (t : BtfType). t.parts.start) (λ (t : BtfType). t.parts.len) n (λ at us. spans_follow k at us n) (parts_of k)
-    (λ at. refl) (λ at t us. refl) refl (λ t us. refl) ts in (
-      (λ h. let p = both.0 h in record { starts = p.0; ends = p.1 }),
-      λ s. both.1 (s.starts, s.ends),
-    )
-
 void_is : (ts : List BtfType) → void_first ts ≡ true → (0 < length ts) × (kind_number (type_at ts 0).kind ≡ 0)
 void_is [] h = absurd (false≢true h)
 void_is (t ∷ ts) h = (omega arith, eqb-true _ _ h)
@@ -170,8 +101,8 @@ fits_formed t f =
       strings = f.strings;
       some = v.0;
       void = v.1;
-      sections = (spans_are 15 (length t.entries) t.types).0 f.sections;
-      protos = (spans_are 13 (length t.params) t.types).0 f.protos;
+      sections = (follow_is (length t.entries) (parts_of 15 t.types)).0 f.sections;
+      protos = (follow_is (length t.params) (parts_of 13 t.types)).0 f.protos;
       others = λ r i. part_is r (all_in parts_fit t.types f.parts r i);
     }
 
@@ -184,8 +115,8 @@ formed_fits t w =
       strings = w.strings;
       void = is_void t.types w.some w.void;
       parts = in_all parts_fit t.types (λ r i. is_part r (w.others r i));
-      sections = (spans_are 15 (length t.entries) t.types).1 w.sections;
-      protos = (spans_are 13 (length t.params) t.types).1 w.protos;
+      sections = (follow_is (length t.entries) (parts_of 15 t.types)).1 w.sections;
+      protos = (follow_is (length t.params) (parts_of 13 t.types)).1 w.protos;
     }
 
 -- ---- an object
@@ -256,15 +187,6 @@ module _ (c : Catalogue) where
       (and_from (leb (length c.rows) MAX_ROWS) _ (le-leb _ _ w.rows) (le-leb _ _ w.names)) (in_all row_inside c.rows (λ k i. le-leb _ _ (w.inside k i)))
 
 -- ---- a program
-functions_are : (n : ℕ) (fs : List Function)
-    → (functions_follow 0 n fs ≡ true) ↔ (((front : List Function) (f : Function) (back : List Function) → fs ≡ front ++ f ∷ back → f.slots.start ≡ slots_of front) × (slots_of fs ≤ n))
-functions_are n fs =
-    let both = follow_is (λ (f : Function). true) (λ (f : Function). f.slots.start) (λ (f : Function). f.slots.len) n (λ at gs. functions_follow at n gs) slots_of
-    (λ at. refl) (λ at f gs. refl) refl (λ f gs. refl) fs in (
-      (λ h. let p = both.0 h in ((λ front f back e. p.0 front f back e refl), p.1)),
-      λ h. both.1 ((λ front f back e c. h.0 front f back e), h.1),
-    )
-
 module _ (p : Program) (code : List ℕ) where
   abbrev offset_fits : Function → Bool
   offset_fits f = leb f.section_offset MAX_SECTION_OFFSET
@@ -284,8 +206,7 @@ module _ (p : Program) (code : List ℕ) where
       let r = and_parts (leb (length p.relocations) MAX_ROWS) _ d.0 in
       let f = and_parts (leb (length p.functions) MAX_FUNCTIONS) _ d.1 in
       let g = and_parts (all offset_fits p.functions) _ f.1 in
-      let k = and_parts (ascends (λ x y. earlier (place x) (place y)) p.functions) (functions_follow 0 (length code / 8) p.functions) g.1 in
-      let s = (functions_are (length code / 8) p.functions).0 k.1 in
+      let k = and_parts (ascends (λ x y. earlier (place x) (place y)) p.functions) (follow 0 (slots_of p.functions) (length code / 8)) g.1 in
       let m = eqb-true (length code % 8) 0 b.0 in
       record {
         slots = length code / 8;
@@ -297,8 +218,7 @@ module _ (p : Program) (code : List ℕ) where
         few_functions = leb-true _ _ f.0;
         offsets = λ x i. leb-true _ _ (all_in offset_fits p.functions g.0 x i);
         functions = (keys_ascend place p.functions).0 k.0;
-        starts = s.0;
-        ends = s.1;
+        spans = (follow_is (length code / 8) (slots_of p.functions)).0 k.1;
       }
 
   formed_program : WellFormedProgram p code → program_fits p code ≡ true
@@ -314,7 +234,7 @@ module _ (p : Program) (code : List ℕ) where
       (and_from (leb (length p.functions) MAX_FUNCTIONS) _ (le-leb _ _ w.few_functions)
       (and_from (all offset_fits p.functions) _ (in_all offset_fits p.functions (λ f i. le-leb _ _ (w.offsets f i)))
       (and_from (ascends (λ x y. earlier (place x) (place y)) p.functions) _ ((keys_ascend place p.functions).1 w.functions)
-      ((functions_are (length code / 8) p.functions).1 (w.starts, subst (λ n. slots_of p.functions ≤ n) same w.ends)))))))
+      ((follow_is (length code / 8) (slots_of p.functions)).1 (subst (λ n. SpansFollow (slots_of p.functions) n) same w.spans)))))))
 
 -- ---- the whole
 pub tables_are_tested : TablesAreTested

@@ -1,9 +1,9 @@
 -- What relocation answers and makes of the slots. Assumes nothing.
-use Rattle.std.specs.Prelude.{ℕ, suc, ◌+◌, ◌-◌, ◌*◌, ◌/◌, ◌%◌, Bool, true, false, cond, not, ◌&&◌, List, [], ◌∷◌, ◌++◌, length, ℤ, pos, is_some, Some, None, Ok, Err, Option, Result, ◌==◌, nat_le, nat_lt, slice_index_or, slice_set}
+use Rattle.std.specs.Prelude.{ℕ, suc, ◌+◌, ◌-◌, ◌*◌, ◌/◌, ◌%◌, Bool, true, false, cond, not, ◌&&◌, List, [], ◌∷◌, ◌++◌, map, length, ℤ, pos, is_some, Some, None, Ok, Err, Option, Result, ◌==◌, nat_le, nat_lt, slice_index_or, slice_set}
 use Rattle.model.specs.Externs.{Extern, extern_named}
 use Rattle.model.specs.Lists.{all, ascends, earlier, lookup}
 use Rattle.model.specs.Slots.{LOAD, CALL, BPF_PSEUDO_BTF_ID, BPF_PSEUDO_KFUNC_CALL, whole_slots, with_src, with_imm, signed, low, high}
-use Rattle.model.specs.Spans.{part, end_of}
+use Rattle.model.specs.Spans.{part, end_of, follow}
 use Rattle.model.specs.Tables.{Symbols, MAX_ROWS, MAX_FUNCTIONS, MAX_SECTION_OFFSET, symbols_fit}
 use Rattle.model.specs.declared.rows.Span.{Span}
 use Rattle.model.specs.declared.rows.Symbol.{Symbol}
@@ -21,16 +21,16 @@ pub record Program : Type 0 where
   pub relocations : List Relocation
   pub symbols : Symbols
 
--- the functions' spans of slots, each from where the last one ended, the first at `at`, are among n slots
-abbrev pub functions_follow : ℕ → ℕ → List Function → Bool
-functions_follow at n [] = nat_le at n
-functions_follow at n (f ∷ fs) = f.slots.start == at && functions_follow (at + f.slots.len) n fs
+-- the slots of each function
+abbrev pub slots_of : List Function → List Span
+slots_of fs = map (λ f. f.slots) fs
 
+-- functions are well-formed with code of n slots
 abbrev pub functions_fit : List Function → ℕ → Bool
 functions_fit fs n =
     nat_le (length fs) MAX_FUNCTIONS
     && (all (λ f. nat_le f.section_offset MAX_SECTION_OFFSET) fs
-    && (ascends (λ f g. earlier (f.section, f.address) (g.section, g.address)) fs && functions_follow 0 n fs))
+    && (ascends (λ f g. earlier (f.section, f.address) (g.section, g.address)) fs && follow 0 (slots_of fs) n))
 
 abbrev pub relocations_fit : List Relocation → Bool
 relocations_fit rs = nat_le (length rs) MAX_ROWS && ascends (λ r s. earlier (r.section, r.offset) (s.section, s.offset)) rs

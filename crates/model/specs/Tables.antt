@@ -1,9 +1,9 @@
 -- The tables of a BTF, of symbols and of a catalogue, and when they are well-formed. Assumes nothing.
-use Rattle.std.specs.Prelude.{ℕ, ◌+◌, Bool, true, false, cond, ◌&&◌, ◌||◌, List, [], ◌∷◌, length, Some, None, Option, ◌==◌, nat_le, nat_lt}
+use Rattle.std.specs.Prelude.{ℕ, Bool, true, false, cond, ◌&&◌, ◌||◌, List, [], ◌∷◌, length, Some, None, Option, ◌==◌, nat_le, nat_lt}
 use Rattle.std.specs.Option.{option_map}
 use Rattle.model.specs.Kinds.{of_kind, is_func_proto, is_data_sec}
 use Rattle.model.specs.Lists.{all, ascends}
-use Rattle.model.specs.Spans.{part, inside}
+use Rattle.model.specs.Spans.{part, inside, follow}
 use Rattle.model.specs.declared.btf.BtfType.{BtfType}
 use Rattle.model.specs.declared.btf.DataSecEntry.{DataSecEntry}
 use Rattle.model.specs.declared.btf.BtfParam.{BtfParam}
@@ -41,10 +41,10 @@ abbrev pub void_first : List BtfType → Bool
 void_first [] = false
 void_first (t ∷ ts) = of_kind 0 t
 
--- the span of each row of a kind starts where the last one ended, the first at `at`, and the last ends inside a table of n rows
-abbrev pub spans_follow : ℕ → ℕ → List BtfType → ℕ → Bool
-spans_follow k at [] n = nat_le at n
-spans_follow k at (t ∷ ts) n = cond (of_kind k t) (t.parts.start == at && spans_follow k (at + t.parts.len) ts n) (spans_follow k at ts n)
+-- the parts of each row of a kind
+abbrev pub parts_of : ℕ → List BtfType → List Span
+parts_of k [] = []
+parts_of k (t ∷ ts) = cond (of_kind k t) (t.parts ∷ parts_of k ts) (parts_of k ts)
 
 -- a row that is no DataSec and no FuncProto has no parts
 abbrev pub parts_fit : BtfType → Bool
@@ -61,7 +61,7 @@ tables_fit t =
     few t
     && (void_first t.types
     && (all parts_fit t.types
-    && (spans_follow 15 0 t.types (length t.entries) && spans_follow 13 0 t.types (length t.params))))
+    && (follow 0 (parts_of 15 t.types) (length t.entries) && follow 0 (parts_of 13 t.types) (length t.params))))
 
 -- ---- symbols, with the table of their names
 pub record Symbols : Type 0 where
