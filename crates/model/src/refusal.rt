@@ -6,7 +6,7 @@ use crate::rows::Span;
 use kallsyms::ends::Fault;
 
 /// The calls on an object.
-#[derive(Clone, Copy)]
+#[derive(Clone, Copy, Debug, PartialEq, Eq)]
 pub enum Call {
     /// `collect_ksyms_from_btf`.
     Collect,
@@ -19,7 +19,7 @@ pub enum Call {
 }
 
 /// A row that should have a name.
-#[derive(Clone, Copy)]
+#[derive(Clone, Copy, Debug, PartialEq, Eq)]
 pub enum Named {
     /// A DataSec, by its type row.
     Section(usize),
@@ -29,7 +29,7 @@ pub enum Named {
 
 /// Why a call was refused; `row` is the first entry, extern or relocation that meets it, by its row,
 /// and `name` the place of a name: of an extern in the type strings, of a relocation's symbol in the symbol names.
-#[derive(Clone, Copy)]
+#[derive(Clone, Copy, Debug, PartialEq)]
 pub enum Reason {
     /// A table breaks a limit, an order or a span, or an object is not as collection leaves it.
     InvalidTable,
@@ -128,7 +128,7 @@ pub enum Reason {
 }
 
 /// A refusal: the call it came from, and why.
-#[derive(Clone, Copy)]
+#[derive(Clone, Copy, Debug, PartialEq)]
 pub struct Refusal {
     /// The call.
     pub call: Call,
@@ -137,7 +137,7 @@ pub struct Refusal {
 }
 
 /// What a refusal tells: its number, and where it has them a row, the place of a name, a line, two addresses and a fault.
-#[derive(Clone, Copy)]
+#[derive(Clone, Copy, Debug, PartialEq)]
 pub struct Told {
     /// The number, from 1 to 21; want of memory has none.
     pub number: Option<u8>,
