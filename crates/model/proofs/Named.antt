@@ -7,7 +7,7 @@ use Rattle.std.proofs.lemmas.Bool.{leb-true, cond_both, cond-true, cond-false, e
 use Rattle.model.specs.Chain.{type_at, chain}
 use Rattle.model.specs.Kinds.{passes_on}
 use Rattle.model.specs.Lists.{lookup}
-use Rattle.model.specs.NameLaws.{NamesEndAtZero, EssentialNames, RowsKeepTheirNames, Leads, ChainsEnd, FindsTheFirst, LookupsFindTheFirst}
+use Rattle.model.specs.NameLaws.{NamesEndAtZero, EssentialNames, Leads, ChainsEnd, FindsTheFirst, LookupsFindTheFirst}
 use Rattle.model.specs.Names.{to_zero, essential, bars}
 use Rattle.model.specs.declared.btf.BtfType.{BtfType}
 use Rattle.model.specs.declared.btf.ChainError.{ChainError}
@@ -137,11 +137,3 @@ finds_the_first X =
 
 pub lookups_find_the_first : LookupsFindTheFirst
 lookups_find_the_first = record { symbols = finds_the_first _; externs = finds_the_first _; catalogue = finds_the_first _; types = finds_the_first _ }
-
--- ---- the place of an extern's name
-pub rows_keep_their_names : RowsKeepTheirNames
-rows_keep_their_names t x h =
-    let l = leb-true (x.name.start + x.name.len) (length t.strings) h in
-    let d = length-drop x.name.start t.strings in
-    let n : x.name.len ≤ length (drop x.name.start t.strings) = omega arith in
-    λ i. record { start = x.name.start; len = length-take-le x.name.len (drop x.name.start t.strings) n i }

@@ -1,5 +1,5 @@
--- The laws of slots and of BTF numbers.
-use Rattle.std.proofs.Common.{◌≡◌, ℕ, zero, suc, ◌+◌, ◌*◌, ◌/◌, ◌%◌, ◌^◌, ◌<◌, List, [], ◌∷◌, ◌++◌, length, get_or, take, drop, sym, refl, ap, ◌∙◌, append-nil, arith, length-drop, take-append-drop, length-take, w16, w32, to_z, of_z}
+-- The laws of slots.
+use Rattle.std.proofs.Common.{rules, ◌≡◌, ℕ, zero, suc, ◌+◌, ◌*◌, ◌/◌, ◌%◌, ◌^◌, ◌<◌, List, [], ◌∷◌, ◌++◌, length, get_or, take, drop, sym, refl, ap, ◌∙◌, append-nil, arith, length-drop, take-append-drop, length-take, w16, w32, to_z, of_z}
 use mir.Facts.{Fits-of_z, sfits_to_z}
 use Rattle.std.specs.List.{AllByRecursion}
 use Rattle.std.proofs.lemmas.Nat.{mod_below, shr-shr}
@@ -7,10 +7,9 @@ use Rattle.std.proofs.ByRecursion.{All-take, All-drop}
 use Rattle.std.proofs.lemmas.List.{drop_all, drop_more}
 use Rattle.std.proofs.lemmas.Int.{wrapping_add-bits, to_z-of_z, of_z-to_z}
 use Rattle.std.proofs.lemmas.Bool.{cond-true, cond-false, eq-eqb, ne_eqb, eqb-true}
-use Rattle.model.specs.SlotLaws.{FitsSlot, SlotsAreBytes, RegistersAreApart, Opcodes, BitsAreKept, LoadsHoldTheirValue, CallsHoldTheirId, PoisonWraps, NewRowsMean}
-use Rattle.model.specs.Slots.{slot_of, slot_bytes, first_slots, slots, slots_bytes, src_reg, with_src, signed, unsigned}
-use Rattle.model.specs.Slots.Loaded.{immediate, variable}
-use Rattle.model.specs.Slots.Called.{kernel_function}
+use Rattle.model.specs.SlotLaws.{FitsSlot, SlotsAreBytes, PoisonWraps}
+use Rattle.model.specs.Slots.{slot_of, slot_bytes, first_slots, slots, slots_bytes, with_imm, with_src, low, high, loads}
+use Rattle.model.specs.Slots.Loaded.{immediate}
 use Rattle.model.specs.declared.rows.Slot.{Slot}
 
 -- ---- how many
@@ -114,61 +113,9 @@ slots_are_bytes =
       bytes = bytes;
     }
 
--- ---- registers, opcodes and immediate values
-pub registers_are_apart : RegistersAreApart
-registers_are_apart =
-    record {
-      source = λ s r. omega arith;
-      source_keeps = λ s r. omega arith;
-      destination = λ s r h. omega arith;
-      destination_keeps = λ s r h. omega arith;
-    }
-
-pub opcodes : Opcodes
-opcodes = (refl, refl)
-
-pub bits_are_kept : BitsAreKept
-bits_are_kept n = let small = mod_below n (2 ^ 32) (omega arith) in (sfits_to_z (record { fits = small }), of_z-to_z w32 (n % 2 ^ 32) small)
-
-pub loads_hold_their_value : LoadsHoldTheirValue
-loads_hold_their_value =
-    record {
-      address = λ a s next h.
-          let value : unsigned (signed (a / 2 ^ 32)) * 2 ^ 32 + unsigned (signed a) ≡ a = omega (arith, (bits_are_kept a).1, (bits_are_kept (a / 2 ^ 32)).1) in
-          cond-true _ _ _ (eq-eqb _ _ (registers_are_apart.source s 0)) ∙ ap immediate value;
-      id = λ id s next h.
-          let reg = src_reg (with_src 3 s) in
-          let is : reg ≡ 3 = registers_are_apart.source s 3 in
-          let value : unsigned (signed id) ≡ id = omega (arith, (bits_are_kept id).1) in
-          cond-false _ _ _ (ne_eqb reg 0 (omega arith)) ∙ cond-true _ _ _ (eq-eqb reg 3 is) ∙ ap variable value;
-    }
-
-pub calls_hold_their_id : CallsHoldTheirId
-calls_hold_their_id id s h =
-    let reg = src_reg (with_src 2 s) in
-    let is : reg ≡ 2 = registers_are_apart.source s 2 in
-    let value : unsigned (signed id) ≡ id = omega (arith, (bits_are_kept id).1) in (
-      cond-false _ _ _ (ne_eqb reg 0 (omega arith)) ∙ cond-false _ _ _ (ne_eqb reg 1 (omega arith)) ∙ cond-true _ _ _ (eq-eqb reg 2 is) ∙ ap kernel_function value,
-      registers_are_apart.source_keeps s 2,
-    )
+-- ---- what slots mean
+pub loads_address : (a : ℕ) (s next : Slot) → a < 2 ^ 64 → loads (with_imm (low a) (with_src 0 s)) (with_imm (high a) next) ≡ immediate a
+loads_address a s next h = search rules
 
 pub poison_wraps : PoisonWraps
 poison_wraps symbol h = wrapping_add-bits w32 2002000000 symbol (omega arith) h
-
--- ---- the numbers of rows
-pub new_rows_mean : NewRowsMean
-new_rows_mean =
-    record {
-      int_kind = λ name. refl;
-      int_parts = λ name. refl;
-      int_flag = λ name. refl;
-      signed_int = λ name. refl;
-      from_first_bit = λ name. refl;
-      four_bytes = λ name. refl;
-      var_kind = λ int name. refl;
-      var_parts = λ int name. refl;
-      var_flag = λ int name. refl;
-      linkage = λ l info h. omega arith;
-      linkage_kind = λ l info h. omega arith;
-      linkage_flag = λ l info h. omega arith;
-    }

@@ -27,7 +27,7 @@ use Rattle.model.proofs.History.{Kept, kept_name, kept_typed, change, next_chang
 use Rattle.model.proofs.Listed.{line_address, short_not, found_in}
 use Rattle.model.proofs.Loads.{Paired, loads_hold}
 use Rattle.model.proofs.Lookups.{some_not, some_same, some_is, none_is, mapped, lookup_in, lookup_map, in_map, map_in, same_is, is_same}
-use Rattle.model.proofs.Slotted.{loads_hold_their_value, slots_length}
+use Rattle.model.proofs.Slotted.{loads_address, slots_length}
 
 -- ---- an address that a line says is below 2 ^ 64
 limited_below : (o : Option ℕ) (a : ℕ) → limited o ≡ Some a → a < 2 ^ 64
@@ -95,7 +95,7 @@ held new old i a l p =
     record {
       low_half = ap (λ s. s.imm) p.first;
       high_half = ap (λ s. s.imm) p.second;
-      loaded = ap (λ s. loads s (slot_at new (i + 1))) p.first ∙ ap (λ s. loads (with_imm (low a) (with_src 0 (slot_at old i))) s) p.second ∙ loads_hold_their_value.address a (slot_at old i) (slot_at old (i + 1)) l;
+      loaded = ap (λ s. loads s (slot_at new (i + 1))) p.first ∙ ap (λ s. loads (with_imm (low a) (with_src 0 (slot_at old i))) s) p.second ∙ loads_address a (slot_at old i) (slot_at old (i + 1)) l;
     }
 
 follow_from : (fs : List Function) (n : ℕ) → functions_fit fs n ≡ true → follow 0 (slots_of fs) n ≡ true
