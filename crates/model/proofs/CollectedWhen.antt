@@ -1,5 +1,6 @@
 -- Collection is granted exactly if the tables are well-formed and there is no section, or one whose entries declare externs that there is room for.
 use Rattle.std.proofs.Common.{◌≡◌, ℕ, suc, Bool, true, false, ◌&&◌, ◌||◌, ltb, leb, List, [], ◌∷◌, length, Some, None, Ok, sym, refl, ap, ◌∙◌, subst, inl, inr, ⊎_elim}
+use Rattle.std.specs.List.{list_any}
 use Rattle.std.specs.Str.{bytes_eq}
 use Rattle.std.proofs.lemmas.Bool.{true≢false, cases_Bool, cond-true, cond-false, and_from, lt-ltb, leb-true, le-leb}
 use Rattle.model.specs.Added.{first_int, with_int, with_placeholder, room_for_placeholder}
@@ -9,7 +10,7 @@ use Rattle.model.specs.CollectLaws.{Declares, Section, CollectedExactlyWhen}
 use Rattle.model.specs.Collected.{Distinct}
 use Rattle.model.specs.Externs.{Extern, Object}
 use Rattle.model.specs.Kinds.{is_func, is_var}
-use Rattle.model.specs.Lists.{In, any, with_first, each, InTurn}
+use Rattle.model.specs.Lists.{In, with_first, each, InTurn}
 use Rattle.model.specs.Tables.{Tables, Symbols, MAX_EXTERNS, tables_fit, symbols_fit}
 use Rattle.model.specs.declared.btf.BtfType.{BtfType}
 use Rattle.model.specs.declared.btf.DataSecEntry.{DataSecEntry}
@@ -21,7 +22,7 @@ use Rattle.model.proofs.TablesTested.{tables_are_tested}
 no_duplicate : (before : List Extern) (n : ℕ) (xs : List Extern) → ((y x : Extern) → In y before → In x xs → y.name ≡ x.name → ⊥) → Distinct xs → duplicate before n xs ≡ None
 no_duplicate before n [] h d = refl
 no_duplicate before n (x ∷ xs) h d =
-    cond-false (any (λ (y : Extern). bytes_eq y.name x.name) before) _ _
+    cond-false (list_any (λ (y : Extern). bytes_eq y.name x.name) before) _ _
     (none_any (λ (y : Extern). bytes_eq y.name x.name) before (λ y j. not_same y.name x.name (h y x j (inl refl))))
     ∙ no_duplicate (x ∷ before) (suc n) xs
     (λ y z j i e. ⊎_elim (λ q. d.0 z i (sym e ∙ ap (λ (w : Extern). w.name) (sym q))) (λ k. h y z k (inr i) e) j) d.1

@@ -1,5 +1,7 @@
 -- A granted collection makes a well-formed object.
 use Rattle.std.proofs.Common.{◌≡◌, ℕ, zero, suc, ◌<◌, Bool, true, false, cond, ◌&&◌, ◌||◌, ltb, leb, ◌⊎◌, List, [], ◌∷◌, ◌++◌, length, is_some, Some, None, Ok, Err, Option, Result, sym, refl, ap, ◌∙◌, subst, inl, inr, ⊎_elim, arith}
+use Rattle.std.specs.Option.{option_or}
+use Rattle.std.specs.List.{list_any}
 use Rattle.std.specs.Str.{bytes_eq}
 use Rattle.std.proofs.lemmas.List.{length_push, get_or_push, drop_at}
 use Rattle.std.proofs.lemmas.Bool.{true≢false, cases_Bool, cond-true, cond-false, and_parts, and_from, or_left, or_right, or_cases, ltb-true}
@@ -10,7 +12,7 @@ use Rattle.model.specs.CollectLaws.{Declares}
 use Rattle.model.specs.Collected.{Distinct, Collected, object_fits}
 use Rattle.model.specs.Externs.{Extern, Object}
 use Rattle.model.specs.Kinds.{is_func, is_var}
-use Rattle.model.specs.Lists.{In, any, or_else, with_first, each, InTurn}
+use Rattle.model.specs.Lists.{In, with_first, each, InTurn}
 use Rattle.model.specs.Names.{to_zero, name_at}
 use Rattle.model.specs.StepLaws.{CollectionCollects}
 use Rattle.model.specs.Tables.{Tables, Symbols, MAX_EXTERNS, tables_fit, symbols_fit}
@@ -147,14 +149,14 @@ unless_parts false r o h = (refl, h)
 apart : (before : List Extern) (n : ℕ) (xs : List Extern) → duplicate before n xs ≡ None → (y x : Extern) → In y before → In x xs → y.name ≡ x.name → ⊥
 apart before n [] h y x j i e = i
 apart before n (z ∷ xs) h y x j i e =
-    let p = unless_parts (any (λ (w : Extern). bytes_eq w.name z.name) before) _ _ h in
+    let p = unless_parts (list_any (λ (w : Extern). bytes_eq w.name z.name) before) _ _ h in
     ⊎_elim (λ q. true≢false (sym (is_same y.name z.name (e ∙ ap (λ (w : Extern). w.name) (sym q))) ∙ any_none (λ (w : Extern). bytes_eq w.name z.name) before p.0 y j))
     (λ k. apart (z ∷ before) (suc n) xs p.1 y x (inr j) k e) i
 
 pub names_apart : (before : List Extern) (n : ℕ) (xs : List Extern) → duplicate before n xs ≡ None → Distinct xs
 names_apart before n [] h = tt
 names_apart before n (x ∷ xs) h =
-    let p = unless_parts (any (λ (w : Extern). bytes_eq w.name x.name) before) _ _ h in
+    let p = unless_parts (list_any (λ (w : Extern). bytes_eq w.name x.name) before) _ _ h in
     ((λ y i e. apart (x ∷ before) (suc n) xs p.1 x y (inl refl) i (sym e)), names_apart (x ∷ before) (suc n) xs p.1)
 
 -- ---- a granted collection, stage by stage
@@ -170,7 +172,7 @@ pub record Passed (t : Tables) (ss : Symbols) (o : Object) : Type 0 where
   pub room : room_for_func func t ≡ true
   pub is : made func rows t ≡ o
 
-else_parts : (x y : Option Reason) → or_else x y ≡ None → (x ≡ None) × (y ≡ None)
+else_parts : (x y : Option Reason) → option_or x y ≡ None → (x ≡ None) × (y ≡ None)
 else_parts None y e = (refl, e)
 else_parts (Some x) y e = absurd (some_not x e)
 
@@ -192,7 +194,7 @@ module _ (t : Tables) (ss : Symbols) (o : Object) where
         → (r : Result (List Extern) Reason) → each (entry_read t ss) at (entries_of t d) ≡ r → collect_rows t at func r ≡ Ok o → Passed t ss o
     rows_are func f (Err e) r h = absurd (err_not _ _ h)
     rows_are func f (Ok xs) r h =
-        let u = unless_is (or_else (duplicate [] at xs) (room_refusal func xs t)) (made func xs t) o h in
+        let u = unless_is (option_or (duplicate [] at xs) (room_refusal func xs t)) (made func xs t) o h in
         let p = else_parts (duplicate [] at xs) (room_refusal func xs t) u.0 in
         let q = room_is func xs t p.1 in
         record { section = d; func = func; rows = xs; found = found; has = f; read = r; apart = p.0; few = q.0; room = q.1; is = u.1 }

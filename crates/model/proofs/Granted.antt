@@ -1,10 +1,12 @@
 -- What a granted call met.
 use Rattle.std.proofs.Common.{◌≡◌, ℕ, true, List, map, is_ok, Some, None, Ok, Err, Option, Result, refl, ap, ◌∙◌, ⊎_elim}
+use Rattle.std.specs.Option.{option_or}
+use Rattle.std.specs.List.{list_any}
 use Rattle.std.proofs.lemmas.Bool.{cond-true, cond-false, cond_both, false≢true, cases_Bool, and_left}
 use Rattle.kallsyms.specs.declared.ends.End.{End}
 use Rattle.model.specs.Externs.{Extern}
 use Rattle.model.specs.Lines.{Line, said}
-use Rattle.model.specs.Lists.{In, any, or_else, first}
+use Rattle.model.specs.Lists.{In, first}
 use Rattle.model.specs.Relocate.{Taken, patched}
 use Rattle.model.specs.Resolve.{typed_refusal, wanted, line_refusal, end_refusal, missing_refusal, lines_refusal}
 use Rattle.model.specs.Runs.{State, Step, fits, reason, refusal, answered, call_of, granted}
@@ -43,15 +45,15 @@ pub clear_granted : (c : Option Catalogue) (ls : List (List ℕ)) (e : End) (st 
 clear_granted c ls e st f k = granted_from (resolve c ls e) st f (or_else_from _ _ (first_none (typed_refusal c) 0 st.object.externs k.typed) k.lines)
 
 -- ---- the parts of a reading with nothing to refuse
-pub lines_parts : (xs : List Extern) (ls : List Line) (e : End) → lines_refusal xs ls e ≡ None → any wanted xs ≡ true → (first (line_refusal xs ls) 0 ls ≡ None) × (end_refusal e ≡ None) × (first (missing_refusal ls) 0 xs ≡ None)
+pub lines_parts : (xs : List Extern) (ls : List Line) (e : End) → lines_refusal xs ls e ≡ None → list_any wanted xs ≡ true → (first (line_refusal xs ls) 0 ls ≡ None) × (end_refusal e ≡ None) × (first (missing_refusal ls) 0 xs ≡ None)
 lines_parts xs ls e h t =
-    let p = or_else_parts (first (line_refusal xs ls) 0 ls) (or_else (end_refusal e) (first (missing_refusal ls) 0 xs)) (when_parts (any wanted xs) _ h t) in
+    let p = or_else_parts (first (line_refusal xs ls) 0 ls) (option_or (end_refusal e) (first (missing_refusal ls) 0 xs)) (when_parts (list_any wanted xs) _ h t) in
     let q = or_else_parts (end_refusal e) (first (missing_refusal ls) 0 xs) p.1 in
     (p.0, q.0, q.1)
 
-pub lines_from : (xs : List Extern) (ls : List Line) (e : End) → (any wanted xs ≡ true → (first (line_refusal xs ls) 0 ls ≡ None) × (end_refusal e ≡ None) × (first (missing_refusal ls) 0 xs ≡ None)) → lines_refusal xs ls e ≡ None
+pub lines_from : (xs : List Extern) (ls : List Line) (e : End) → (list_any wanted xs ≡ true → (first (line_refusal xs ls) 0 ls ≡ None) × (end_refusal e ≡ None) × (first (missing_refusal ls) 0 xs ≡ None)) → lines_refusal xs ls e ≡ None
 lines_from xs ls e h =
-    cond_both (any wanted xs) (or_else (first (line_refusal xs ls) 0 ls) (or_else (end_refusal e) (first (missing_refusal ls) 0 xs))) None (λ o. o ≡ None)
+    cond_both (list_any wanted xs) (option_or (first (line_refusal xs ls) 0 ls) (option_or (end_refusal e) (first (missing_refusal ls) 0 xs))) None (λ o. o ≡ None)
     (λ t. let p = h t in or_else_from _ _ p.0 (or_else_from _ _ p.1 p.2)) (λ _. refl)
 
 pub none_missing : (xs : List Extern) (ls : List Line) (e : End) → lines_refusal xs ls e ≡ None → (x : Extern) → In x xs → missing_refusal ls x ≡ None

@@ -1,5 +1,6 @@
 -- When a resolution is granted.
 use Rattle.std.proofs.Common.{◌≡◌, ℕ, Bool, true, false, not, ◌&&◌, ◌||◌, eqb, ◌↔◌, List, map, is_some, Some, None, Option, sym, refl, ap, ◌∙◌, subst, inl, inr, ⊎_elim}
+use Rattle.std.specs.List.{list_any}
 use Rattle.std.proofs.lemmas.Bool.{cond-true, cond-false, cond_both, both_ways, false≢true, cases_Bool, eqb-true, eqb-false, eq-eqb, and_parts, and_from, or_left, or_right, or_cases, not-true}
 use Rattle.std.specs.Str.{bytes_eq}
 use Rattle.kallsyms.specs.declared.ends.End.{End}
@@ -8,7 +9,7 @@ use Rattle.model.specs.Externs.{Extern}
 use Rattle.model.specs.Laws.{TypedCondition, Wanted, FindsRow, LinesAnswer, LineCondition}
 use Rattle.model.specs.Lines.{Line, said, first_address}
 use Rattle.model.specs.Lines.Line.{line, short}
-use Rattle.model.specs.Lists.{In, any, lookup}
+use Rattle.model.specs.Lists.{In, lookup}
 use Rattle.model.specs.Resolve.{candidate, missing_row, unfit_row, row_refusal, catalogue_refusal, strong_typed, typed_refusal, wanted, address_refusal, wanted_refusal, line_refusal, end_refusal, missing_refusal, lines_refusal}
 use Rattle.model.specs.Runs.{State, Step, fits, granted, runs}
 use Rattle.model.specs.Runs.Step.{resolve}
@@ -93,7 +94,7 @@ module _
               (first_address (f r).name ls, (subst (λ n. In (line n (Some (first_address (f r).name ls))) ls) (kept_name (kept r)) (found_in (f r).name ls z), z));
         }))
         (λ t. inl (λ r i w. both_ways _ t (any_in wanted (map f rows) (f r) (in_map f rows r i) (from r i w))))
-        (cases_Bool (any wanted (map f rows)))
+        (cases_Bool (list_any wanted (map f rows)))
 
     module _ (c : LinesAnswer W rows raw e) where
       line_clear : (l : Line) → In l ls → line_refusal (map f rows) ls l ≡ None

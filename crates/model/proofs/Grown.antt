@@ -1,5 +1,6 @@
 -- Tables that grow, or whose rows are rewritten and keep their shape, stay well-formed.
 use Rattle.std.proofs.Common.{◌≡◌, ℕ, zero, suc, ◌+◌, ◌<◌, ◌≤◌, Bool, true, false, cond, ◌&&◌, ◌||◌, eqb, ltb, leb, ◌⊎◌, List, [], ◌∷◌, ◌++◌, length, drop, set, is_some, Some, None, Ok, codes, Option, Result, sym, refl, ap, ◌∙◌, subst, inl, inr, ⊎_elim, arith}
+use Rattle.std.specs.List.{list_all}
 use Rattle.std.specs.Option.{option_map}
 use Rattle.std.specs.Str.{bytes_eq}
 use Rattle.std.proofs.lemmas.List.{append-nil, append_assoc, length-append, length_push, get_or_append_left, drop-append-le, at_drop_all}
@@ -9,7 +10,7 @@ use Rattle.model.specs.Added.{added, int_row, placeholder_row, int_name, placeho
 use Rattle.model.specs.Collect.{section_here, section_from, section_of, entries_of}
 use Rattle.model.specs.Collected.{declares}
 use Rattle.model.specs.Kinds.{kind_number, of_kind, is_func, is_var, is_data_sec}
-use Rattle.model.specs.Lists.{In, all, lookup, number_of}
+use Rattle.model.specs.Lists.{In, lookup, number_of}
 use Rattle.model.specs.Names.{to_zero, name_at}
 use Rattle.model.specs.Spans.{part, follow}
 use Rattle.model.specs.Tables.{Tables, MAX_ROWS, MAX_NAMES, void_first, parts_of, parts_fit, few, tables_fit}
@@ -78,7 +79,7 @@ alike_void (t ∷ ts) (u ∷ us) a = kind_same 0 t u a.0
 parts_same : (t u : BtfType) → Shape t u → parts_fit u ≡ parts_fit t
 parts_same t u s = λ i. (kind_same 15 t u s i || kind_same 13 t u s i) || eqb (s.parts i).len 0
 
-pub alike_parts : (ts us : List BtfType) → Alike ts us → all parts_fit us ≡ all parts_fit ts
+pub alike_parts : (ts us : List BtfType) → Alike ts us → list_all parts_fit us ≡ list_all parts_fit ts
 alike_parts [] [] a = refl
 alike_parts [] (u ∷ us) a = absurd a
 alike_parts (t ∷ ts) [] a = absurd a
@@ -110,9 +111,9 @@ pub void_push : (ts us : List BtfType) → void_first ts ≡ true → void_first
 void_push [] us h = absurd (false≢true h)
 void_push (t ∷ ts) us h = h
 
-pub parts_push : (ts : List BtfType) (u : BtfType) → all parts_fit ts ≡ true → parts_fit u ≡ true → all parts_fit (ts ++ u ∷ []) ≡ true
+pub parts_push : (ts : List BtfType) (u : BtfType) → list_all parts_fit ts ≡ true → parts_fit u ≡ true → list_all parts_fit (ts ++ u ∷ []) ≡ true
 parts_push [] u h p = and_from (parts_fit u) true p refl
-parts_push (t ∷ ts) u h p = let q = and_parts (parts_fit t) (all parts_fit ts) h in and_from (parts_fit t) _ q.0 (parts_push ts u q.1 p)
+parts_push (t ∷ ts) u h p = let q = and_parts (parts_fit t) (list_all parts_fit ts) h in and_from (parts_fit t) _ q.0 (parts_push ts u q.1 p)
 
 -- ---- names in longer strings
 mapped_some : (f : List ℕ → List ℕ) (o : Option (List ℕ)) → is_some (option_map f o) ≡ is_some o
@@ -194,7 +195,7 @@ pub record Fits (t : Tables) : Type 0 where
   pub params : length t.params ≤ MAX_ROWS
   pub strings : length t.strings ≤ MAX_NAMES
   pub void : void_first t.types ≡ true
-  pub parts : all parts_fit t.types ≡ true
+  pub parts : list_all parts_fit t.types ≡ true
   pub sections : follow 0 (parts_of 15 t.types) (length t.entries) ≡ true
   pub protos : follow 0 (parts_of 13 t.types) (length t.params) ≡ true
 
@@ -205,7 +206,7 @@ fits_is t h =
     let g = and_parts (leb (length t.entries) MAX_ROWS) _ f.1 in
     let k = and_parts (leb (length t.params) MAX_ROWS) _ g.1 in
     let b = and_parts (void_first t.types) _ a.1 in
-    let c = and_parts (all parts_fit t.types) _ b.1 in
+    let c = and_parts (list_all parts_fit t.types) _ b.1 in
     let d = and_parts (follow 0 (parts_of 15 t.types) (length t.entries)) _ c.1 in
     record {
       types = leb-true _ _ f.0;
@@ -225,7 +226,7 @@ is_fit t f =
     (and_from (leb (length t.entries) MAX_ROWS) _ (le-leb _ _ f.entries)
     (and_from (leb (length t.params) MAX_ROWS) _ (le-leb _ _ f.params) (le-leb _ _ f.strings))))
     (and_from (void_first t.types) _ f.void
-    (and_from (all parts_fit t.types) _ f.parts (and_from (follow 0 (parts_of 15 t.types) (length t.entries)) _ f.sections f.protos)))
+    (and_from (list_all parts_fit t.types) _ f.parts (and_from (follow 0 (parts_of 15 t.types) (length t.entries)) _ f.sections f.protos)))
 
 -- rows rewritten in their shape, entries and parameters as many as before, and the strings
 pub record Rewritten (t u : Tables) : Type 0 where

@@ -1,9 +1,11 @@
 -- Options, results, tests of lists, the first refusal, the lookup, and names.
 use Rattle.std.proofs.Common.{◌≡◌, ℕ, suc, Bool, true, false, cond, ◌⊎◌, List, [], ◌∷◌, map, is_some, Some, None, Ok, Err, Option, Result, sym, refl, ap, ◌∙◌, subst, inl, inr, ⊎_elim, arith}
+use Rattle.std.specs.Option.{option_or}
+use Rattle.std.specs.List.{list_any, list_all}
 use Rattle.std.specs.Str.{bytes_eq}
 use Rattle.std.proofs.lemmas.Slice.Eq.{bytes_eq-Decides}
 use Rattle.std.proofs.lemmas.Bool.{cond-true, cond-false, true≢false, false≢true, cases_Bool, and_parts, and_from, or_from, or_left, or_right, or_cases, or_parts}
-use Rattle.model.specs.Lists.{In, any, all, lookup, or_else, numbered, first}
+use Rattle.model.specs.Lists.{In, lookup, numbered, first}
 use Rattle.model.specs.Names.{reads_as}
 
 -- ---- tests, options and results
@@ -30,12 +32,12 @@ pub none_is : {X : Type 0} (o : Option X) → is_some o ≡ false → o ≡ None
 none_is None e = refl
 none_is (Some x) e = absurd (true≢false e)
 
-pub or_else_parts : {X : Type 0} (x y : Option X) → or_else x y ≡ None → (x ≡ None) × (y ≡ None)
+pub or_else_parts : {X : Type 0} (x y : Option X) → option_or x y ≡ None → (x ≡ None) × (y ≡ None)
 or_else_parts None y e = (refl, e)
 or_else_parts (Some x) y e = absurd (some_not x e)
 
-pub or_else_from : {X : Type 0} (x y : Option X) → x ≡ None → y ≡ None → or_else x y ≡ None
-or_else_from x y p q = ap (λ t. or_else t y) p ∙ q
+pub or_else_from : {X : Type 0} (x y : Option X) → x ≡ None → y ≡ None → option_or x y ≡ None
+or_else_from x y p q = ap (λ t. option_or t y) p ∙ q
 
 -- a test before a refusal
 pub test_parts : {X : Type 0} (b : Bool) (x : Option X) (y : X) → cond b x (Some y) ≡ None → (b ≡ true) × (x ≡ None)
@@ -63,32 +65,32 @@ module _ {X R : Type 0} (why : X → Option (ℕ → R)) where
 
 -- ---- tests of each and of some
 module _ {X : Type 0} (p : X → Bool) where
-  pub all_in : (xs : List X) → all p xs ≡ true → (x : X) → In x xs → p x ≡ true
+  pub all_in : (xs : List X) → list_all p xs ≡ true → (x : X) → In x xs → p x ≡ true
   all_in [] h x i = absurd i
-  all_in (y ∷ ys) h x (inl e) = ap p (sym e) ∙ (and_parts (p y) (all p ys) h).0
-  all_in (y ∷ ys) h x (inr i) = all_in ys (and_parts (p y) (all p ys) h).1 x i
+  all_in (y ∷ ys) h x (inl e) = ap p (sym e) ∙ (and_parts (p y) (list_all p ys) h).0
+  all_in (y ∷ ys) h x (inr i) = all_in ys (and_parts (p y) (list_all p ys) h).1 x i
 
-  pub in_all : (xs : List X) → ((x : X) → In x xs → p x ≡ true) → all p xs ≡ true
+  pub in_all : (xs : List X) → ((x : X) → In x xs → p x ≡ true) → list_all p xs ≡ true
   in_all [] h = refl
-  in_all (x ∷ xs) h = and_from (p x) (all p xs) (h x (inl refl)) (in_all xs (λ y i. h y (inr i)))
+  in_all (x ∷ xs) h = and_from (p x) (list_all p xs) (h x (inl refl)) (in_all xs (λ y i. h y (inr i)))
 
-  pub any_in : (xs : List X) (x : X) → In x xs → p x ≡ true → any p xs ≡ true
+  pub any_in : (xs : List X) (x : X) → In x xs → p x ≡ true → list_any p xs ≡ true
   any_in [] x i t = absurd i
-  any_in (y ∷ ys) x (inl q) t = or_left (p y) (any p ys) (ap p q ∙ t)
-  any_in (y ∷ ys) x (inr i) t = or_right (p y) (any p ys) (any_in ys x i t)
+  any_in (y ∷ ys) x (inl q) t = or_left (p y) (list_any p ys) (ap p q ∙ t)
+  any_in (y ∷ ys) x (inr i) t = or_right (p y) (list_any p ys) (any_in ys x i t)
 
-  pub none_any : (xs : List X) → ((x : X) → In x xs → p x ≡ false) → any p xs ≡ false
+  pub none_any : (xs : List X) → ((x : X) → In x xs → p x ≡ false) → list_any p xs ≡ false
   none_any [] h = refl
-  none_any (x ∷ xs) h = or_from (p x) (any p xs) (h x (inl refl)) (none_any xs (λ y i. h y (inr i)))
+  none_any (x ∷ xs) h = or_from (p x) (list_any p xs) (h x (inl refl)) (none_any xs (λ y i. h y (inr i)))
 
-  pub any_none : (xs : List X) → any p xs ≡ false → (x : X) → In x xs → p x ≡ false
+  pub any_none : (xs : List X) → list_any p xs ≡ false → (x : X) → In x xs → p x ≡ false
   any_none [] h x i = absurd i
-  any_none (y ∷ ys) h x (inl e) = ap p (sym e) ∙ (or_parts (p y) (any p ys) h).0
-  any_none (y ∷ ys) h x (inr i) = any_none ys (or_parts (p y) (any p ys) h).1 x i
+  any_none (y ∷ ys) h x (inl e) = ap p (sym e) ∙ (or_parts (p y) (list_any p ys) h).0
+  any_none (y ∷ ys) h x (inr i) = any_none ys (or_parts (p y) (list_any p ys) h).1 x i
 
-  pub any_some : (xs : List X) → any p xs ≡ true → (x : X) × In x xs × (p x ≡ true)
+  pub any_some : (xs : List X) → list_any p xs ≡ true → (x : X) × In x xs × (p x ≡ true)
   any_some [] e = absurd (false≢true e)
-  any_some (x ∷ xs) e = ⊎_elim (λ t. (x, inl refl, t)) (λ t. let r = any_some xs t in (r.0, inr r.1, r.2)) (or_cases (p x) (any p xs) e)
+  any_some (x ∷ xs) e = ⊎_elim (λ t. (x, inl refl, t)) (λ t. let r = any_some xs t in (r.0, inr r.1, r.2)) (or_cases (p x) (list_any p xs) e)
 
 -- ---- the lookup
 abbrev pub mapped : {X : Type 0} → (X → X) → Option (ℕ × X) → Option (ℕ × X)

@@ -1,5 +1,6 @@
 -- On well-formed tables no call is refused for its tables.
 use Rattle.std.proofs.Common.{◌≡◌, ℕ, suc, Bool, true, false, cond, eqb, List, [], ◌∷◌, map, ℤ, is_some, Some, None, Ok, Err, Option, Result, sym, refl, ap, ◌∙◌}
+use Rattle.std.specs.Option.{option_or}
 use Rattle.std.proofs.lemmas.Bool.{cond_both, eq-eqb, true≢false}
 use Rattle.kallsyms.specs.declared.ends.End.{End}
 use Rattle.kallsyms.specs.declared.ends.End.TheVariants.{Clean, Broken}
@@ -7,7 +8,7 @@ use Rattle.model.specs.Externs.{Extern}
 use Rattle.model.specs.Fixup.{fix_refusal_for}
 use Rattle.model.specs.Lines.{Line, said}
 use Rattle.model.specs.Lines.Line.{line, short}
-use Rattle.model.specs.Lists.{or_else, first, numbered}
+use Rattle.model.specs.Lists.{first, numbered}
 use Rattle.model.specs.Refusals.{told}
 use Rattle.model.specs.Relocate.{Taken, taken, call_slot, with_call, load_value, with_load, patch_extern, patch_found, patch_name, patch_symbol, patch, patched, extern_name, symbol_of, slot_at, slot_index, is_call, is_load}
 use Rattle.model.specs.Resolve.{candidate, row_refusal, missing_row, unfit_row, catalogue_refusal, typed_refusal, address_refusal, wanted_refusal, line_refusal, end_refusal, missing_refusal, lines_refusal}
@@ -43,7 +44,7 @@ abbrev OtherErr : {X : Type 0} → Result X Reason → Type 0
 OtherErr (Ok x) = Unit {0}
 OtherErr (Err e) = Other e
 
-else_others : (x y : Option Reason) → Others x → Others y → Others (or_else x y)
+else_others : (x y : Option Reason) → Others x → Others y → Others (option_or x y)
 else_others None y h k = k
 else_others (Some r) y h k = h
 

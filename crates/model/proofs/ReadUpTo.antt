@@ -1,9 +1,11 @@
 -- Which lines a resolution reads, and which line it is refused for.
 use Rattle.std.proofs.Common.{◌≡◌, ℕ, suc, ◌+◌, Bool, true, false, cond, not, ◌||◌, List, [], ◌∷◌, ◌++◌, map, length, is_some, Some, None, Option, sym, refl, ap, ◌∙◌, inl, inr, ⊎_elim, arith}
+use Rattle.std.specs.Option.{option_or}
+use Rattle.std.specs.List.{list_any}
 use Rattle.std.proofs.lemmas.Bool.{cond-true, cond-false, or_left, or_right, or_from, true≢false}
 use Rattle.model.specs.Externs.{Extern}
 use Rattle.model.specs.Lines.{Line, said}
-use Rattle.model.specs.Lists.{In, any, first, numbered, or_else}
+use Rattle.model.specs.Lists.{In, first, numbered}
 use Rattle.model.specs.ReadLaws.{Reads, LinesAreRead}
 use Rattle.model.specs.Resolve.{typed_refusal, wanted, line_refusal, end_refusal, missing_refusal, after_first}
 use Rattle.model.specs.Tables.{Catalogue}
@@ -21,7 +23,7 @@ module _ (stops : List ℕ → Bool) where
       cond-false (stops k) (front ++ l ∷ back) (after_first stops (front ++ l ∷ back)) (not_then_false (stops k) (h k (inl refl))) ∙ after_one front l back (λ j i. h j (inr i)) t
 
 -- whether a resolution reads no line
-idle : (c : Option Catalogue) (xs : List Extern) → Reads c xs → (is_some (first (typed_refusal c) 0 xs) || not (any wanted xs)) ≡ false
+idle : (c : Option Catalogue) (xs : List Extern) → Reads c xs → (is_some (first (typed_refusal c) 0 xs) || not (list_any wanted xs)) ≡ false
 idle c xs (h, w) = or_from _ _ (ap is_some h) (ap not w)
 
 -- the first refusal is that of the first line that has one
@@ -32,17 +34,17 @@ module _ (why : Line → Option (ℕ → Reason)) where
       → first why n (map said (front ++ l ∷ back)) ≡ numbered (n + length front) (why (said l))
   first_at n [] l back h t = here n (why (said l)) _ t
     where
-      here : (n : ℕ) (o : Option (ℕ → Reason)) (r : Option Reason) → is_some o ≡ true → or_else (numbered n o) r ≡ numbered (n + 0) o
+      here : (n : ℕ) (o : Option (ℕ → Reason)) (r : Option Reason) → is_some o ≡ true → option_or (numbered n o) r ≡ numbered (n + 0) o
       here n None r t = absurd (true≢false (sym t))
       here n (Some f) r t = let e : n ≡ n + 0 = omega arith in ap (λ k. Some (f k)) e
   first_at n (k ∷ front) l back h t =
       let none = none_is (why (said k)) (not_then_false (is_some (why (said k))) (h k (inl refl))) in
       let e : suc n + length front ≡ n + suc (length front) = omega arith in
-      ap (λ o. or_else (numbered n o) (first why (suc n) (map said (front ++ l ∷ back)))) none
+      ap (λ o. option_or (numbered n o) (first why (suc n) (map said (front ++ l ∷ back)))) none
       ∙ first_at (suc n) front l back (λ j i. h j (inr i)) t
       ∙ ap (λ m. numbered m (why (said l))) e
 
-some_first : (n : ℕ) (o : Option (ℕ → Reason)) (r : Option Reason) → is_some o ≡ true → or_else (numbered n o) r ≡ numbered n o
+some_first : (n : ℕ) (o : Option (ℕ → Reason)) (r : Option Reason) → is_some o ≡ true → option_or (numbered n o) r ≡ numbered n o
 some_first n None r t = absurd (true≢false (sym t))
 some_first n (Some f) r t = refl
 
@@ -59,10 +61,10 @@ lines_are_read =
       refused = λ c xs front l back e r h t.
           let ls = map said (front ++ l ∷ back) in
           let why = line_refusal xs ls in
-          let rest : Option Reason = or_else (end_refusal e) (first (missing_refusal ls) 0 xs) in
-          ap (λ o. or_else o (cond (any wanted xs) (or_else (first why 0 ls) rest) None)) r.0
-          ∙ cond-true (any wanted xs) (or_else (first why 0 ls) rest) None r.1
-          ∙ ap (λ o. or_else o rest) (first_at why 0 front l back h t)
+          let rest : Option Reason = option_or (end_refusal e) (first (missing_refusal ls) 0 xs) in
+          ap (λ o. option_or o (cond (list_any wanted xs) (option_or (first why 0 ls) rest) None)) r.0
+          ∙ cond-true (list_any wanted xs) (option_or (first why 0 ls) rest) None r.1
+          ∙ ap (λ o. option_or o rest) (first_at why 0 front l back h t)
           ∙ some_first (0 + length front) (why (said l)) rest t
           ∙ ap (λ m. numbered m (why (said l))) (zero_plus (length front));
     }

@@ -1,5 +1,6 @@
 -- An address that a resolution gave stands, also in the slots that load it.
 use Rattle.std.proofs.Common.{◌≡◌, ℕ, suc, ◌+◌, ◌/◌, ◌^◌, ◌<◌, true, false, not, ◌||◌, eqb, ltb, leb, List, [], ◌∷◌, map, length, is_some, Some, None, Option, sym, refl, ap, ◌∙◌, subst, inl, inr, ⊎_elim}
+use Rattle.std.specs.List.{list_all}
 use Rattle.std.specs.Str.{bytes_eq}
 use Rattle.std.proofs.lemmas.Bool.{cond-true, cond-false, cond_both, cases_Bool, and_parts, and_from, or_parts, ltb-true}
 use Rattle.kallsyms.specs.Address.{address, number, unsigned, limited}
@@ -10,7 +11,7 @@ use Rattle.model.specs.Externs.{Extern, extern_named, resolved_to, addressed}
 use Rattle.model.specs.Laws.{Lists, address_in, address_of, Holds, LoadsHold, Stands}
 use Rattle.model.specs.Lines.{Line, said, first_address}
 use Rattle.model.specs.Lines.Line.{line, short}
-use Rattle.model.specs.Lists.{In, all, ascends, lookup}
+use Rattle.model.specs.Lists.{In, ascends, lookup}
 use Rattle.model.specs.Relocate.{Program, slots_of, code_fits, relocations_fit, functions_fit, program_fits, slot_at, slot_index}
 use Rattle.model.specs.Resolve.{fitting_id, wanted, given_id, settled, given}
 use Rattle.model.specs.Runs.{State, Step, granted, next, runs}
@@ -99,7 +100,7 @@ held new old i a l p =
     }
 
 follow_from : (fs : List Function) (n : ℕ) → functions_fit fs n ≡ true → follow 0 (slots_of fs) n ≡ true
-follow_from fs n h = (and_parts (ascends _ fs) (follow 0 (slots_of fs) n) (and_parts (all _ fs) _ (and_parts (leb (length fs) MAX_FUNCTIONS) _ h).1).1).1
+follow_from fs n h = (and_parts (ascends _ fs) (follow 0 (slots_of fs) n) (and_parts (list_all _ fs) _ (and_parts (leb (length fs) MAX_FUNCTIONS) _ h).1).1).1
 
 program_follow : (p : Program) (bs : List ℕ) → program_fits p bs ≡ true → follow 0 (slots_of p.functions) (length bs / 8) ≡ true
 program_follow p bs h =

@@ -1,11 +1,12 @@
 -- The tests of the tables say exactly that the tables are well-formed.
 use Rattle.std.proofs.Common.{◌≡◌, ℕ, ◌/◌, ◌%◌, ◌<◌, ◌≤◌, Bool, true, false, ◌&&◌, ◌||◌, eqb, ltb, leb, ◌⊎◌, ◌↔◌, List, [], ◌∷◌, ◌++◌, length, Some, None, Option, sym, refl, ap, ◌∙◌, subst, inl, inr, ⊎_elim, arith}
+use Rattle.std.specs.List.{list_all}
 use Rattle.std.proofs.lemmas.Bool.{false≢true, cases_Bool, and_parts, and_from, or_left, or_right, or_from, or_parts, or_cases, ltb-true, lt-ltb, leb-true, le-leb, eqb-true, eq-eqb}
 use Rattle.model.specs.Chain.{type_at}
 use Rattle.model.specs.Collected.{Collected, collected_if_any, object_fits}
 use Rattle.model.specs.Externs.{Extern, Object}
 use Rattle.model.specs.Kinds.{kind_number, of_kind, is_func_proto, is_data_sec}
-use Rattle.model.specs.Lists.{all, ascends, earlier}
+use Rattle.model.specs.Lists.{ascends, earlier}
 use Rattle.model.specs.Relocate.{Program, slots_of, functions_fit, relocations_fit, code_fits, program_fits}
 use Rattle.model.specs.Slots.{whole_slots}
 use Rattle.model.specs.Spans.{inside, end_of, follow}
@@ -156,7 +157,7 @@ module _ (ss : Symbols) where
   symbols_formed h =
       let a = and_parts (leb (length ss.rows) MAX_ROWS && leb (length ss.names) MAX_NAMES) _ h in
       let b = and_parts (leb (length ss.rows) MAX_ROWS) _ a.0 in
-      let c = and_parts (ascends (λ s t. ltb s.index t.index) ss.rows) (all name_inside ss.rows) a.1 in
+      let c = and_parts (ascends (λ s t. ltb s.index t.index) ss.rows) (list_all name_inside ss.rows) a.1 in
       record {
         rows = leb-true _ _ b.0;
         names = leb-true _ _ b.1;
@@ -177,7 +178,7 @@ module _ (c : Catalogue) where
 
   catalogue_formed : catalogue_fits (Some c) ≡ true → WellFormedCatalogue c
   catalogue_formed h =
-      let a = and_parts (leb (length c.rows) MAX_ROWS && leb (length c.names) MAX_NAMES) (all row_inside c.rows) h in
+      let a = and_parts (leb (length c.rows) MAX_ROWS && leb (length c.names) MAX_NAMES) (list_all row_inside c.rows) h in
       let b = and_parts (leb (length c.rows) MAX_ROWS) _ a.0 in
       record { rows = leb-true _ _ b.0; names = leb-true _ _ b.1; inside = λ k i. leb-true _ _ (all_in row_inside c.rows a.1 k i) }
 
@@ -205,7 +206,7 @@ module _ (p : Program) (code : List ℕ) where
       let d = and_parts (relocations_fit p.relocations) (functions_fit p.functions (length code / 8)) c.1 in
       let r = and_parts (leb (length p.relocations) MAX_ROWS) _ d.0 in
       let f = and_parts (leb (length p.functions) MAX_FUNCTIONS) _ d.1 in
-      let g = and_parts (all offset_fits p.functions) _ f.1 in
+      let g = and_parts (list_all offset_fits p.functions) _ f.1 in
       let k = and_parts (ascends (λ x y. earlier (place x) (place y)) p.functions) (follow 0 (slots_of p.functions) (length code / 8)) g.1 in
       let m = eqb-true (length code % 8) 0 b.0 in
       record {
@@ -232,7 +233,7 @@ module _ (p : Program) (code : List ℕ) where
       (and_from (relocations_fit p.relocations) (functions_fit p.functions (length code / 8))
       (and_from (leb (length p.relocations) MAX_ROWS) _ (le-leb _ _ w.few_relocations) ((keys_ascend spot p.relocations).1 w.relocations))
       (and_from (leb (length p.functions) MAX_FUNCTIONS) _ (le-leb _ _ w.few_functions)
-      (and_from (all offset_fits p.functions) _ (in_all offset_fits p.functions (λ f i. le-leb _ _ (w.offsets f i)))
+      (and_from (list_all offset_fits p.functions) _ (in_all offset_fits p.functions (λ f i. le-leb _ _ (w.offsets f i)))
       (and_from (ascends (λ x y. earlier (place x) (place y)) p.functions) _ ((keys_ascend place p.functions).1 w.functions)
       ((follow_is (length code / 8) (slots_of p.functions)).1 (subst (λ n. SpansFollow (slots_of p.functions) n) same w.spans)))))))
 

@@ -1,5 +1,6 @@
 -- The test of an object says that it is as collection leaves it.
 use Rattle.std.proofs.Common.{◌≡◌, ℕ, Bool, true, not, ◌&&◌, List, [], ◌∷◌, is_some, Some, None, Ok, Err, Option, Result, sym, refl, ap, ◌∙◌, ⊎_elim}
+use Rattle.std.specs.List.{list_any, list_all}
 use Rattle.std.specs.Str.{bytes_eq}
 use Rattle.std.proofs.lemmas.Bool.{true≢false, false≢true, cases_Bool, and_parts, and_from, not-true, not_from_false}
 use Rattle.model.specs.Chain.{type_at}
@@ -7,7 +8,7 @@ use Rattle.model.specs.Collect.{section_of, entries_of}
 use Rattle.model.specs.Collected.{declares, Distinct, Collected, distinct, placeholder_fits, found_fits, externs_fit, collected_if_any}
 use Rattle.model.specs.Externs.{Extern, Object}
 use Rattle.model.specs.Kinds.{is_func}
-use Rattle.model.specs.Lists.{In, any, all}
+use Rattle.model.specs.Lists.{In}
 use Rattle.model.specs.Names.{name_at, reads_as}
 use Rattle.model.specs.StepLaws.{CollectedIsTested}
 use Rattle.model.specs.Tables.{Tables}
@@ -19,13 +20,13 @@ use Rattle.model.proofs.Lookups.{some_not, some_same, all_in, in_all, none_any, 
 pub distinct_is : (xs : List Extern) → distinct xs ≡ true → Distinct xs
 distinct_is [] h = tt
 distinct_is (x ∷ xs) h =
-    let p = and_parts (not (any (λ (y : Extern). bytes_eq y.name x.name) xs)) (distinct xs) h in
+    let p = and_parts (not (list_any (λ (y : Extern). bytes_eq y.name x.name) xs)) (distinct xs) h in
     ((λ y i e. true≢false (sym (is_same y.name x.name e) ∙ any_none (λ (z : Extern). bytes_eq z.name x.name) xs (not-true _ p.0) y i)), distinct_is xs p.1)
 
 pub is_distinct : (xs : List Extern) → Distinct xs → distinct xs ≡ true
 is_distinct [] h = refl
 is_distinct (x ∷ xs) h =
-    and_from (not (any (λ (y : Extern). bytes_eq y.name x.name) xs)) (distinct xs)
+    and_from (not (list_any (λ (y : Extern). bytes_eq y.name x.name) xs)) (distinct xs)
     (not_from_false _ (none_any (λ (y : Extern). bytes_eq y.name x.name) xs (λ y i. not_same y.name x.name (h.0 y i)))) (is_distinct xs h.1)
 
 -- ---- the placeholder
@@ -56,7 +57,7 @@ module _ (t : Tables) where
   pub externs_are : (xs : List Extern) → externs_fit t xs ≡ true
       → ((x : Extern) → In x xs → declares t x.entry ≡ true) × ((x : Extern) → In x xs → name_at t.strings x.place ≡ Some x.name) × Distinct xs
   externs_are xs h =
-      let p = and_parts (all extern_fits xs) (distinct xs) h in (
+      let p = and_parts (list_all extern_fits xs) (distinct xs) h in (
         (λ x i. (and_parts _ _ (all_in extern_fits xs p.0 x i)).0),
         (λ x i. reads_is _ _ (and_parts _ _ (all_in extern_fits xs p.0 x i)).1),
         distinct_is xs p.1,
@@ -67,7 +68,7 @@ module _ (t : Tables) where
       → ((x : Extern) → In x xs → name_at t.strings x.place ≡ Some x.name)
       → Distinct xs
       → externs_fit t xs ≡ true
-  are_externs xs e n d = and_from (all extern_fits xs) (distinct xs) (in_all extern_fits xs (λ x i. and_from _ _ (e x i) (is_read _ _ (n x i)))) (is_distinct xs d)
+  are_externs xs e n d = and_from (list_all extern_fits xs) (distinct xs) (in_all extern_fits xs (λ x i. and_from _ _ (e x i) (is_read _ _ (n x i)))) (is_distinct xs d)
 
 -- ---- the whole
 if_any : (o : Object) (xs : List Extern) → (xs ≡ [] → ⊥) → collected_if_any o xs ≡ true
@@ -87,7 +88,7 @@ found_is o (Ok None) is f h = absurd (false≢true f)
 found_is o (Ok (Some d)) is f h =
     let t = o.tables in
     let es = entries_of t d in
-    let s = and_parts (all (λ (e : DataSecEntry). declares t e.btf_type) es) (placeholder_fits t es o.placeholder) f in
+    let s = and_parts (list_all (λ (e : DataSecEntry). declares t e.btf_type) es) (placeholder_fits t es o.placeholder) f in
     let p = placeholder_is t es o.placeholder s.1 in
     let x = externs_are t o.externs h in
     record {
@@ -107,7 +108,7 @@ collected_test o c =
     let es = entries_of t c.section in
     any_if o o.externs
     (ap (found_fits t o.placeholder) c.found
-    ∙ and_from (all (λ (e : DataSecEntry). declares t e.btf_type) es) (placeholder_fits t es o.placeholder)
+    ∙ and_from (list_all (λ (e : DataSecEntry). declares t e.btf_type) es) (placeholder_fits t es o.placeholder)
     (in_all (λ (e : DataSecEntry). declares t e.btf_type) es c.entries) (is_placeholder t es o.placeholder c.placeholder c.func))
     (are_externs t o.externs c.externs c.names c.distinct)
 

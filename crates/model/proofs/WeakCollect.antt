@@ -1,5 +1,7 @@
 -- Externs made weak, and the collection of symbols declared weak.
 use Rattle.std.proofs.Common.{◌≡◌, ℕ, zero, suc, Bool, true, false, cond, ◌&&◌, ◌||◌, ltb, leb, List, [], ◌∷◌, map, length, Some, None, Ok, Err, Option, Result, sym, refl, ap, ◌∙◌, subst, inl, inr}
+use Rattle.std.specs.Option.{option_or}
+use Rattle.std.specs.List.{list_any, list_all}
 use Rattle.std.specs.Str.{bytes_eq}
 use Rattle.std.proofs.lemmas.Bool.{cond-true, cond-false, cond_both}
 use Rattle.model.specs.Chain.{type_at, resolve_type}
@@ -7,7 +9,7 @@ use Rattle.model.specs.Collect.{symbol_named, chain_read, symbol_read, name_read
 use Rattle.model.specs.Externs.{Extern, Object}
 use Rattle.model.specs.Kinds.{is_func, is_var}
 use Rattle.model.specs.Laws.{weaker_symbol, weaker_rows, weaker_symbols}
-use Rattle.model.specs.Lists.{In, any, all, ascends, lookup, or_else, with_first, each}
+use Rattle.model.specs.Lists.{In, ascends, lookup, with_first, each}
 use Rattle.model.specs.Names.{name_at, reads_as}
 use Rattle.model.specs.Tables.{Tables, Symbols, MAX_ROWS, MAX_EXTERNS, MAX_NAMES, tables_fit, symbols_fit, inside_if_any, symbol_name}
 use Rattle.model.specs.declared.btf.BtfType.{BtfType}
@@ -42,11 +44,11 @@ module _ {X : Type 0} (f : Bool → X → X) where
 
   -- what does not read the change, is the same of the changed rows
   module _ (p : X → Bool) (h : (b : Bool) (x : X) → p (f b x) ≡ p x) where
-    pub any_masked : (m : ℕ → Bool) (xs : List X) → any p (masked f m xs) ≡ any p xs
+    pub any_masked : (m : ℕ → Bool) (xs : List X) → list_any p (masked f m xs) ≡ list_any p xs
     any_masked m [] = refl
     any_masked m (x ∷ xs) = λ i. h (m 0) x i || any_masked (λ j. m (suc j)) xs i
 
-    pub all_masked : (m : ℕ → Bool) (xs : List X) → all p (masked f m xs) ≡ all p xs
+    pub all_masked : (m : ℕ → Bool) (xs : List X) → list_all p (masked f m xs) ≡ list_all p xs
     all_masked m [] = refl
     all_masked m (x ∷ xs) = λ i. h (m 0) x i && all_masked (λ j. m (suc j)) xs i
 
@@ -153,7 +155,7 @@ each_alike f g h n (x ∷ xs) = first_alike _ _ _ _ (h n x) (each_alike f g h (s
 -- ---- what is tested last
 -- two lists have the same names
 abbrev SameNames : List Extern → List Extern → Type 0
-SameNames xs ys = (n : List ℕ) → any (λ y. bytes_eq y.name n) ys ≡ any (λ y. bytes_eq y.name n) xs
+SameNames xs ys = (n : List ℕ) → list_any (λ y. bytes_eq y.name n) ys ≡ list_any (λ y. bytes_eq y.name n) xs
 
 duplicate_weak : (before front : List Extern) → SameNames before front → (n : ℕ) (m : ℕ → Bool) (xs : List Extern) → duplicate front n (weakened m xs) ≡ duplicate before n xs
 duplicate_weak before front h n m [] = refl
@@ -171,10 +173,10 @@ unless_alike (Some e) m o = refl
 module _ (t : Tables) where
   rows_weak : (n : ℕ) (func : Bool) (m : ℕ → Bool) (xs : List Extern) → Alike weakened_object (collect_rows t n func (Ok xs)) (collect_rows t n func (Ok (weakened m xs)))
   rows_weak n func m xs =
-      let last : or_else (duplicate [] n xs) (room_refusal func xs t) ≡ or_else (duplicate [] n (weakened m xs)) (room_refusal func (weakened m xs) t) = λ i.
-      or_else (sym (duplicate_weak [] [] (λ z. refl) n m xs) i) (cond (leb (sym (masked_length weaker m xs) i) MAX_EXTERNS && room_for_func func t) None (Some Reason.NoRoom)) in
+      let last : option_or (duplicate [] n xs) (room_refusal func xs t) ≡ option_or (duplicate [] n (weakened m xs)) (room_refusal func (weakened m xs) t) = λ i.
+      option_or (sym (duplicate_weak [] [] (λ z. refl) n m xs) i) (cond (leb (sym (masked_length weaker m xs) i) MAX_EXTERNS && room_for_func func t) None (Some Reason.NoRoom)) in
       subst (Alike weakened_object (collect_rows t n func (Ok xs))) (λ i. granted_unless (last i) (sym (made_weak func m xs t) i))
-      (unless_alike (or_else (duplicate [] n xs) (room_refusal func xs t)) m (made func xs t))
+      (unless_alike (option_or (duplicate [] n xs) (room_refusal func xs t)) m (made func xs t))
 
   rows_alike : (n : ℕ) (func : Bool) (p q : Result (List Extern) Reason) → Alike weakened p q → Alike weakened_object (collect_rows t n func p) (collect_rows t n func q)
   rows_alike n func (Err e) q h = ap (collect_rows t n func) h

@@ -1,5 +1,6 @@
 -- Runs of a collected object: it stays well-formed, and the laws of every list of calls.
 use Rattle.std.proofs.Common.{◌≡◌, ℕ, ◌+◌, ◌≤◌, Bool, true, cond, not, ◌&&◌, ◌||◌, leb, ◌⊎◌, List, [], ◌∷◌, map, length, Some, None, Option, sym, refl, ap, ◌∙◌, subst, inl, inr, ⊎_elim, arith}
+use Rattle.std.specs.List.{list_any, list_all}
 use Rattle.std.specs.Str.{bytes_eq}
 use Rattle.std.proofs.lemmas.List.{length-map, length-append}
 use Rattle.std.proofs.lemmas.Bool.{cond-true, cond-false, cond_both, cases_Bool, and_from, and_right}
@@ -10,7 +11,6 @@ use Rattle.model.specs.Externs.{Extern, Object}
 use Rattle.model.specs.Fixup.{fixed, fixed_for, int_of}
 use Rattle.model.specs.Laws.{Starts, GrantedExactlyWhen, StaysWellFormed, AddressStands, NamesFindTheirExtern}
 use Rattle.model.specs.Lines.{said}
-use Rattle.model.specs.Lists.{any, all}
 use Rattle.model.specs.Names.{name_at, reads_as}
 use Rattle.model.specs.Resolve.{given}
 use Rattle.model.specs.Runs.{State, Step, brings_fit, fits, reason, granted, made, next, runs}
@@ -33,11 +33,11 @@ use Rattle.model.proofs.Twice.{GlobalVar, fixed_twice}
 
 -- ---- resolution keeps what the test of an object reads
 module _ (f : Extern → Extern) (kept : (x : Extern) → Kept x (f x)) where
-  all_map : (p : Extern → Bool) → ((x : Extern) → p (f x) ≡ p x) → (xs : List Extern) → all p (map f xs) ≡ all p xs
+  all_map : (p : Extern → Bool) → ((x : Extern) → p (f x) ≡ p x) → (xs : List Extern) → list_all p (map f xs) ≡ list_all p xs
   all_map p h [] = refl
   all_map p h (x ∷ xs) = λ i. h x i && all_map p h xs i
 
-  any_map : (p q : Extern → Bool) → ((x : Extern) → p (f x) ≡ q x) → (xs : List Extern) → any p (map f xs) ≡ any q xs
+  any_map : (p q : Extern → Bool) → ((x : Extern) → p (f x) ≡ q x) → (xs : List Extern) → list_any p (map f xs) ≡ list_any q xs
   any_map p q h [] = refl
   any_map p q h (x ∷ xs) = λ i. h x i || any_map p q h xs i
 

@@ -1,7 +1,8 @@
 -- What relocation answers and makes of the slots. Assumes nothing.
 use Rattle.std.specs.Prelude.{ℕ, suc, ◌+◌, ◌-◌, ◌*◌, ◌/◌, ◌%◌, Bool, true, false, cond, not, ◌&&◌, List, [], ◌∷◌, ◌++◌, map, length, ℤ, pos, is_some, Some, None, Ok, Err, Option, Result, ◌==◌, nat_le, nat_lt, slice_index_or, slice_set}
+use Rattle.std.specs.List.{list_all}
 use Rattle.model.specs.Externs.{Extern, extern_named}
-use Rattle.model.specs.Lists.{all, ascends, earlier, lookup}
+use Rattle.model.specs.Lists.{ascends, earlier, lookup}
 use Rattle.model.specs.Slots.{LOAD, CALL, BPF_PSEUDO_BTF_ID, BPF_PSEUDO_KFUNC_CALL, whole_slots, with_src, with_imm, signed, low, high}
 use Rattle.model.specs.Spans.{part, end_of, follow}
 use Rattle.model.specs.Tables.{Symbols, MAX_ROWS, MAX_FUNCTIONS, MAX_SECTION_OFFSET, symbols_fit}
@@ -29,7 +30,7 @@ slots_of fs = map (λ f. f.slots) fs
 abbrev pub functions_fit : List Function → ℕ → Bool
 functions_fit fs n =
     nat_le (length fs) MAX_FUNCTIONS
-    && (all (λ f. nat_le f.section_offset MAX_SECTION_OFFSET) fs
+    && (list_all (λ f. nat_le f.section_offset MAX_SECTION_OFFSET) fs
     && (ascends (λ f g. earlier (f.section, f.address) (g.section, g.address)) fs && follow 0 (slots_of fs) n))
 
 abbrev pub relocations_fit : List Relocation → Bool

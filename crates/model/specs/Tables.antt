@@ -1,8 +1,9 @@
 -- The tables of a BTF, of symbols and of a catalogue, and when they are well-formed. Assumes nothing.
 use Rattle.std.specs.Prelude.{ℕ, Bool, true, false, cond, ◌&&◌, ◌||◌, List, [], ◌∷◌, length, Some, None, Option, ◌==◌, nat_le, nat_lt}
+use Rattle.std.specs.List.{list_all}
 use Rattle.std.specs.Option.{option_map}
 use Rattle.model.specs.Kinds.{of_kind, is_func_proto, is_data_sec}
-use Rattle.model.specs.Lists.{all, ascends}
+use Rattle.model.specs.Lists.{ascends}
 use Rattle.model.specs.Spans.{part, inside, follow}
 use Rattle.model.specs.declared.btf.BtfType.{BtfType}
 use Rattle.model.specs.declared.btf.DataSecEntry.{DataSecEntry}
@@ -60,7 +61,7 @@ abbrev pub tables_fit : Tables → Bool
 tables_fit t =
     few t
     && (void_first t.types
-    && (all parts_fit t.types
+    && (list_all parts_fit t.types
     && (follow 0 (parts_of 15 t.types) (length t.entries) && follow 0 (parts_of 13 t.types) (length t.params))))
 
 -- ---- symbols, with the table of their names
@@ -76,7 +77,7 @@ inside_if_any names (Some s) = inside names s
 abbrev pub symbols_fit : Symbols → Bool
 symbols_fit ss =
     (nat_le (length ss.rows) MAX_ROWS && nat_le (length ss.names) MAX_NAMES)
-    && (ascends (λ s t. nat_lt s.index t.index) ss.rows && all (λ s. inside_if_any ss.names s.name) ss.rows)
+    && (ascends (λ s t. nat_lt s.index t.index) ss.rows && list_all (λ s. inside_if_any ss.names s.name) ss.rows)
 
 -- the name of a symbol
 abbrev pub symbol_name : Symbols → Symbol → Option (List ℕ)
@@ -91,4 +92,4 @@ pub record Catalogue : Type 0 where
 abbrev pub catalogue_fits : Option Catalogue → Bool
 catalogue_fits None = true
 catalogue_fits (Some c) =
-    (nat_le (length c.rows) MAX_ROWS && nat_le (length c.names) MAX_NAMES) && all (λ k. inside c.names k.name) c.rows
+    (nat_le (length c.rows) MAX_ROWS && nat_le (length c.names) MAX_NAMES) && list_all (λ k. inside c.names k.name) c.rows
