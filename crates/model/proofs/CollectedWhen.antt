@@ -3,6 +3,7 @@ use Rattle.std.proofs.Common.{◌≡◌, ℕ, suc, Bool, true, false, ◌&&◌, 
 use Rattle.std.specs.List.{list_any}
 use Rattle.std.specs.Str.{bytes_eq}
 use Rattle.std.proofs.lemmas.Bool.{true≢false, cases_Bool, cond-true, cond-false, and_from, lt-ltb, leb-true, le-leb}
+use Rattle.std.proofs.lemmas.Option.{none-some, same_Some}
 use Rattle.model.specs.Added.{first_int, with_int, with_placeholder, room_for_placeholder}
 use Rattle.model.specs.Chain.{type_at}
 use Rattle.model.specs.Collect.{section_of, entries_of, has_func, fresh, chain_read, symbol_read, name_read, entry_read, duplicate, room_for_func, room_refusal, made, granted_unless, collect_rows, collect_entries, collect_section, collect}
@@ -14,7 +15,7 @@ use Rattle.model.specs.Lists.{In, with_first, each, InTurn}
 use Rattle.model.specs.Tables.{Tables, Symbols, MAX_EXTERNS, tables_fit, symbols_fit}
 use Rattle.model.specs.declared.btf.BtfType.{BtfType}
 use Rattle.model.specs.declared.btf.DataSecEntry.{DataSecEntry}
-use Rattle.model.proofs.Lookups.{some_not, some_same, ok_same, or_else_from, none_any, not_same}
+use Rattle.model.proofs.Lookups.{ok_same, or_else_from, none_any, not_same}
 use Rattle.model.proofs.Collects.{each_turn, entry_declared, entry_is, no_func, some_func, names_apart, Passed, collect_fits, collect_passed, made_externs}
 use Rattle.model.proofs.TablesTested.{tables_are_tested}
 
@@ -124,7 +125,7 @@ module _ (t : Tables) (ss : Symbols) where
 
 -- ---- the whole
 not_both : (t : Tables) (d : ℕ) → section_of t ≡ Ok None → section_of t ≡ Ok (Some d) → ⊥
-not_both t d p q = some_not d (ok_same _ _ (sym q ∙ p))
+not_both t d p q = none-some d (sym (ok_same _ _ (sym q ∙ p)))
 
 pub collected_exactly_when : CollectedExactlyWhen
 collected_exactly_when =
@@ -143,19 +144,19 @@ collected_exactly_when =
       externs = λ t ss o d h s.
           ⊎_elim (λ e. absurd (not_both t d e.0 s))
           (λ (c : Passed t ss o).
-          subst (λ k. Section t ss k o.externs) (some_same _ _ (ok_same _ _ (sym c.found ∙ s))) (subst (Section t ss c.section) (externs_passed t ss o c) (section_passed t ss o c)))
+          subst (λ k. Section t ss k o.externs) (same_Some _ _ (ok_same _ _ (sym c.found ∙ s))) (subst (Section t ss c.section) (externs_passed t ss o c) (section_passed t ss o c)))
           (collect_passed t ss o h);
       none = λ t ss o h s. ⊎_elim (λ e. sym e.1) (λ (c : Passed t ss o). absurd (not_both t c.section s c.found)) (collect_passed t ss o h);
       without_func = λ t ss o d h s f.
           ⊎_elim (λ e. absurd (not_both t d e.0 s))
           (λ (c : Passed t ss o).
           made_plain t ss o c.func c.rows _ (entries_of t c.section) c.has c.is
-          (λ e i. f e (subst (λ k. In e (entries_of t k)) (some_same _ _ (ok_same _ _ (sym c.found ∙ s))) i)))
+          (λ e i. f e (subst (λ k. In e (entries_of t k)) (same_Some _ _ (ok_same _ _ (sym c.found ∙ s))) i)))
           (collect_passed t ss o h);
       with_func = λ t ss o d e h s i f.
           ⊎_elim (λ n. absurd (not_both t d n.0 s))
           (λ (c : Passed t ss o).
           made_placed t ss o c.func c.rows _ (entries_of t c.section) e c.has c.is
-          (subst (λ k. In e (entries_of t k)) (some_same _ _ (ok_same _ _ (sym s ∙ c.found))) i) f)
+          (subst (λ k. In e (entries_of t k)) (same_Some _ _ (ok_same _ _ (sym s ∙ c.found))) i) f)
           (collect_passed t ss o h);
     }

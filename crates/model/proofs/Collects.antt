@@ -5,6 +5,7 @@ use Rattle.std.specs.List.{list_any}
 use Rattle.std.specs.Str.{bytes_eq}
 use Rattle.std.proofs.lemmas.List.{length_push, get_or_push, drop_at}
 use Rattle.std.proofs.lemmas.Bool.{true≢false, cases_Bool, cond-true, cond-false, and_parts, and_from, or_left, or_right, or_cases, ltb-true}
+use Rattle.std.proofs.lemmas.Option.{none-some, same_Some}
 use Rattle.model.specs.Added.{placeholder_row, placeholder_name, added, first_int, with_int}
 use Rattle.model.specs.Chain.{no_row, type_at, chain, resolve_type}
 use Rattle.model.specs.Collect.{section_of, entries_of, has_func, fresh, symbol_named, chain_read, symbol_read, name_read, row_read, entry_read, duplicate, room_for_func, room_refusal, made, granted_unless, collect_rows, collect_entries, collect_section, collect}
@@ -21,7 +22,7 @@ use Rattle.model.specs.declared.btf.ChainError.{ChainError}
 use Rattle.model.specs.declared.btf.DataSecEntry.{DataSecEntry}
 use Rattle.model.specs.declared.refusal.Reason.{Reason}
 use Rattle.model.specs.declared.rows.Symbol.{Symbol}
-use Rattle.model.proofs.Lookups.{some_not, some_same, ok_same, err_not, any_none, is_same}
+use Rattle.model.proofs.Lookups.{ok_same, err_not, any_none, is_same}
 use Rattle.model.proofs.Tested.{collected_test}
 use Rattle.model.proofs.Grown.{Fits, fits_is, is_fit, Longer, longer_same, longer_added, longer_on, longer_section, longer_entries, longer_name, longer_at, Declared, is_declared, longer_declared, section_is, first_below, int_longer, int_below, placeholder_fits_in}
 
@@ -143,7 +144,7 @@ no_func ts n (x ∷ es) h e i =
 
 -- ---- names apart
 unless_parts : (b : Bool) (r : Reason) (o : Option Reason) → cond b (Some r) o ≡ None → (b ≡ false) × (o ≡ None)
-unless_parts true r o h = absurd (some_not r h)
+unless_parts true r o h = absurd (none-some r (sym h))
 unless_parts false r o h = (refl, h)
 
 apart : (before : List Extern) (n : ℕ) (xs : List Extern) → duplicate before n xs ≡ None → (y x : Extern) → In y before → In x xs → y.name ≡ x.name → ⊥
@@ -174,11 +175,11 @@ pub record Passed (t : Tables) (ss : Symbols) (o : Object) : Type 0 where
 
 else_parts : (x y : Option Reason) → option_or x y ≡ None → (x ≡ None) × (y ≡ None)
 else_parts None y e = (refl, e)
-else_parts (Some x) y e = absurd (some_not x e)
+else_parts (Some x) y e = absurd (none-some x (sym e))
 
 room_is : (func : Bool) (xs : List Extern) (t : Tables) → room_refusal func xs t ≡ None → (leb (length xs) MAX_EXTERNS ≡ true) × (room_for_func func t ≡ true)
 room_is func xs t h =
-    ⊎_elim (λ e. and_parts _ _ e) (λ e. absurd (some_not _ (sym (cond-false (leb (length xs) MAX_EXTERNS && room_for_func func t) _ _ e) ∙ h)))
+    ⊎_elim (λ e. and_parts _ _ e) (λ e. absurd (none-some _ (sym h ∙ cond-false (leb (length xs) MAX_EXTERNS && room_for_func func t) _ _ e)))
     (cases_Bool (leb (length xs) MAX_EXTERNS && room_for_func func t))
 
 unless_is : (e : Option Reason) (x o : Object) → granted_unless e x ≡ Ok o → (e ≡ None) × (x ≡ o)
@@ -259,8 +260,8 @@ module _ (t : Tables) (xs : List Extern) where
   made_new : (func : Bool) (p : ℕ) → (made func xs t).placeholder ≡ Some p → New (made func xs t).tables p
   made_new true p e =
       let k = with_int (first_int t.types) t in
-      subst (New (made true xs t).tables) (some_same (length k.1.types) p e) (new_placeholder k.0 k.1 (int_below t (first_int t.types) (first_below t.types)))
-  made_new false p e = absurd (some_not p (sym e))
+      subst (New (made true xs t).tables) (same_Some (length k.1.types) p e) (new_placeholder k.0 k.1 (int_below t (first_int t.types) (first_below t.types)))
+  made_new false p e = absurd (none-some p e)
 
 module _ (t : Tables) (ss : Symbols) (o : Object) (c : Passed t ss o) where
   abbrev new : Object
@@ -342,7 +343,7 @@ module _ (t : Tables) (ss : Symbols) (o : Object) (h : collect t ss ≡ Ok o) wh
 
   pub collect_placeholder : (p : ℕ) → o.placeholder ≡ Some p → (is_var (type_at o.tables.types p) ≡ true) × ((type_at o.tables.types p).«data» ≡ 1)
   collect_placeholder p q =
-      ⊎_elim (λ e. absurd (some_not p (sym q ∙ sym (ap (λ (y : Object). y.placeholder) e.1))))
+      ⊎_elim (λ e. absurd (none-some p (sym (sym q ∙ sym (ap (λ (y : Object). y.placeholder) e.1)))))
       (λ (c : Passed t ss o).
       let n = made_new t c.rows c.func p (ap (λ (y : Object). y.placeholder) c.is ∙ q) in
       subst (λ (y : Object). (is_var (type_at y.tables.types p) ≡ true) × ((type_at y.tables.types p).«data» ≡ 1)) c.is (n.var, n.global))

@@ -4,6 +4,7 @@ use lib.Seq.{take-nil, drop-nil}
 use Rattle.std.specs.List.{range_with_len}
 use Rattle.std.proofs.lemmas.List.{length-append, length-set, length-map, length-take, length-drop, get_or_append_left, get_or-set_other}
 use Rattle.std.proofs.lemmas.Bool.{false≢true, cond-false, cond_both, and_parts, and_from, and_left, and_right, or_cases, eqb-true, eq-eqb, ne_eqb}
+use Rattle.std.proofs.lemmas.Option.{none-some, same_Some}
 use Rattle.model.specs.Added.{with_int}
 use Rattle.model.specs.Chain.{no_row, type_at}
 use Rattle.model.specs.Collect.{section_of, entries_of}
@@ -23,7 +24,7 @@ use Rattle.model.specs.declared.btf.BtfParam.{BtfParam}
 use Rattle.model.specs.declared.btf.DataSecEntry.{DataSecEntry}
 use Rattle.model.specs.declared.refusal.Reason.{Reason}
 use Rattle.model.specs.declared.rows.Span.{Span}
-use Rattle.model.proofs.Lookups.{some_not, some_same, ok_same}
+use Rattle.model.proofs.Lookups.{ok_same}
 use Rattle.model.proofs.Tested.{collected_test, collected_is_tested}
 use Rattle.model.proofs.Followed.{follow_in}
 use Rattle.model.proofs.Grown.{Shape, shape_same, alike_length, alike_at, alike_set, Fits, fits_is, is_fit, Rewritten, rewritten_same, rewritten_on, rewritten_fits, rewritten_section, Longer, longer_section, longer_entries, longer_name, longer_at, Declared, declared_is, is_declared, longer_declared, section_is, parts_in, first_below, int_longer, int_below, int_fits}
@@ -298,7 +299,7 @@ module _ (p : Option ℕ) (d int : ℕ) (t : Tables) where
 -- ---- the whole
 pub int_known : (p : Option ℕ) (t : Tables) → ((q : ℕ) → p ≡ Some q → Declared t q) → (i : ℕ) → int_of p t.types ≡ Some i → i < length t.types
 int_known None t h i e = first_below t.types i e
-int_known (Some q) t h i e = subst (λ j. j < length t.types) (some_same _ i e) (h q refl).type
+int_known (Some q) t h i e = subst (λ j. j < length t.types) (same_Some _ i e) (h q refl).type
 
 -- the tables of a collected object, and what they become
 module _ (o : Object) (c : Collected o) where
@@ -386,7 +387,7 @@ object_collected o x xs e h = (collected_is_tested o (some_externs x xs o.extern
 
 room_is : (b : Bool) (r : Reason) → cond b None (Some r) ≡ None → b ≡ true
 room_is true r e = refl
-room_is false r e = absurd (some_not r e)
+room_is false r e = absurd (none-some r (sym e))
 
 fits_for : (xs : List Extern) (o : Object) → o.externs ≡ xs → object_fits o ≡ true → fix_refusal_for xs o.placeholder o.tables ≡ None
     → object_fits (record { tables = fixed_for xs o.placeholder o.tables; externs = o.externs; placeholder = o.placeholder }) ≡ true
@@ -601,7 +602,7 @@ leaves_for : (xs : List Extern) (o : Object) (d : ℕ) → o.externs ≡ xs → 
 leaves_for [] o d e h s = same_leaves o d
 leaves_for (x ∷ xs) o d e h s =
     let c = object_collected o x xs e h in
-    let same : c.section ≡ d = some_same _ _ (ok_same _ _ (sym c.found ∙ s)) in
+    let same : c.section ≡ d = same_Some _ _ (ok_same _ _ (sym c.found ∙ s)) in
     subst (Leaves o (record { tables = fixed_tables o.placeholder o.tables; externs = o.externs; placeholder = o.placeholder })) same
     (subst (λ (t : Tables). Leaves o (record { tables = t; externs = o.externs; placeholder = o.placeholder }) c.section) (sym (done_is o c)) (done_leaves o c (object_parts o h).0))
 

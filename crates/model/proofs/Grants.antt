@@ -3,6 +3,7 @@ use Rattle.std.proofs.Common.{◌≡◌, ℕ, Bool, true, false, not, ◌&&◌, 
 use Rattle.std.specs.List.{list_any}
 use Rattle.std.proofs.lemmas.Bool.{cond-true, cond-false, cond_both, both_ways, false≢true, cases_Bool, eqb-true, eqb-false, eq-eqb, and_parts, and_from, or_left, or_right, or_cases, not-true}
 use Rattle.std.specs.Str.{bytes_eq}
+use Rattle.std.proofs.lemmas.Option.{none-some}
 use Rattle.kallsyms.specs.declared.ends.End.{End}
 use Rattle.kallsyms.specs.declared.ends.End.TheVariants.{Clean, Broken}
 use Rattle.model.specs.Externs.{Extern}
@@ -18,18 +19,18 @@ use Rattle.model.specs.declared.rows.CatalogueRow.{CatalogueRow}
 use Rattle.model.proofs.Granted.{Clear, clear, clear_granted, lines_parts, lines_from, none_missing}
 use Rattle.model.proofs.History.{marked, Kept, kept_name, kept_weak, after, runs_after, after_kept, wanted-Wanted, Wanted-wanted}
 use Rattle.model.proofs.Listed.{found_in, in_found}
-use Rattle.model.proofs.Lookups.{some_not, some_is, first_none, none_first, any_in, any_some, lookup_in, lookup_none, in_map, map_in, same_is, same_refl, when_parts}
+use Rattle.model.proofs.Lookups.{some_is, first_none, none_first, any_in, any_some, lookup_in, lookup_none, in_map, map_in, same_is, same_refl, when_parts}
 
 -- ---- one line
 refused_parts : (x : Extern) (i a : ℕ) (o : Option ℕ) → address_refusal x i a o ≡ None → (is_some o ≡ true) × ((b : ℕ) → o ≡ Some b → (b ≡ 0 → ⊥) → a ≡ b)
-refused_parts x i a None h = absurd (some_not _ h)
+refused_parts x i a None h = absurd (none-some _ (sym h))
 refused_parts x i a (Some d) h = (
   refl,
   λ b q nz.
       let s : d ≡ b = cc in
       ⊎_elim
       (λ t. ⊎_elim (λ z. absurd (nz (sym s ∙ eqb-true d 0 z))) (λ z. eqb-true a d z ∙ s) (or_cases _ _ t))
-      (λ t. absurd (some_not _ (sym (cond-false (eqb d 0 || eqb a d) None (Some _) t) ∙ h)))
+      (λ t. absurd (none-some _ (sym h ∙ cond-false (eqb d 0 || eqb a d) None (Some _) t)))
       (cases_Bool (eqb d 0 || eqb a d)),
 )
 
@@ -56,11 +57,11 @@ judged rows ls e r o h i w j =
     (some_is (lookup has 0 rows))
 
 pub not_missing : (ls : List Line) (r : Extern) → missing_refusal ls r ≡ None → wanted r ≡ true → r.weak ≡ false → first_address r.name ls ≡ 0 → ⊥
-not_missing ls r h w s z = some_not _ (when_parts ((wanted r && not r.weak) && eqb (first_address r.name ls) 0) (Some _) h (and_from _ _ (and_from _ _ w (ap not s)) (eq-eqb _ 0 z)))
+not_missing ls r h w s z = none-some _ (sym (when_parts ((wanted r && not r.weak) && eqb (first_address r.name ls) 0) (Some _) h (and_from _ _ (and_from _ _ w (ap not s)) (eq-eqb _ 0 z))))
 
 end_clean : (e : End) → end_refusal e ≡ None → e ≡ Clean
 end_clean Clean h = refl
-end_clean (Broken f) h = absurd (some_not _ h)
+end_clean (Broken f) h = absurd (none-some _ (sym h))
 
 -- ---- the two conditions, of rows that calls have changed and that W says are wanted
 module _
@@ -154,10 +155,10 @@ typed_kept : (c : Option Catalogue) {r q : Extern} → Kept r q → typed_refusa
 typed_kept c {r} {q} k = ap (typed_refusal c) k.row ∙ typed_marked c q.resolved q.id q.address r
 
 unfit_not : (x : Extern) → unfit_row x ≡ None → ⊥
-unfit_not x = cond_both x.func (Some _) (Some _) (λ o. o ≡ None → ⊥) (λ _. some_not _) (λ _. some_not _)
+unfit_not x = cond_both x.func (Some _) (Some _) (λ o. o ≡ None → ⊥) (λ _ e. none-some _ (sym e)) (λ _ e. none-some _ (sym e))
 
 missing_not : (x : Extern) → missing_row x ≡ None → ⊥
-missing_not x = cond_both x.func (Some _) (Some _) (λ o. o ≡ None → ⊥) (λ _. some_not _) (λ _. some_not _)
+missing_not x = cond_both x.func (Some _) (Some _) (λ o. o ≡ None → ⊥) (λ _ e. none-some _ (sym e)) (λ _ e. none-some _ (sym e))
 
 -- an extern that is not refused finds a row that fits
 pub row_fits : (x : Extern) (o : Option (ℕ × CatalogueRow)) → row_refusal x o ≡ None → (k : ℕ × CatalogueRow) × (o ≡ Some k) × (k.1.fits ≡ true)
@@ -169,7 +170,7 @@ row_fits x (Some k) h =
     (cases_Bool k.1.fits)
 
 refusal_finds : (c : Option Catalogue) (x : Extern) → catalogue_refusal c x ≡ None → FindsRow c x
-refusal_finds None x h = absurd (some_not _ h)
+refusal_finds None x h = absurd (none-some _ (sym h))
 refusal_finds (Some c) x h = row_fits x (candidate c x) h
 
 finds_refusal : (c : Option Catalogue) (x : Extern) → FindsRow c x → catalogue_refusal c x ≡ None

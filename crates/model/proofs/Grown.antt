@@ -5,6 +5,7 @@ use Rattle.std.specs.Option.{option_map}
 use Rattle.std.specs.Str.{bytes_eq}
 use Rattle.std.proofs.lemmas.List.{append-nil, append_assoc, length-append, length_push, get_or_append_left, drop-append-le, at_drop_all}
 use Rattle.std.proofs.lemmas.Bool.{false≢true, cases_Bool, cases_lt, cond-true, cond-false, cond_both, and_parts, and_from, ltb-true, lt-ltb, leb-true, le-leb}
+use Rattle.std.proofs.lemmas.Option.{none-some, same_Some}
 use Rattle.model.specs.Chain.{no_row, type_at}
 use Rattle.model.specs.Added.{added, int_row, placeholder_row, int_name, placeholder_name, is_int_of_four, first_int, with_int, with_placeholder, room_for, room_for_int, room_for_placeholder}
 use Rattle.model.specs.Collect.{section_here, section_from, section_of, entries_of}
@@ -16,7 +17,7 @@ use Rattle.model.specs.Spans.{part, follow}
 use Rattle.model.specs.Tables.{Tables, MAX_ROWS, MAX_NAMES, void_first, parts_of, parts_fit, few, tables_fit}
 use Rattle.model.specs.declared.btf.BtfType.{BtfType}
 use Rattle.model.specs.declared.refusal.Reason.{Reason}
-use Rattle.model.proofs.Lookups.{some_not, some_same, ok_same, err_not}
+use Rattle.model.proofs.Lookups.{ok_same, err_not}
 
 -- ---- rows of one shape
 pub record Shape (t u : BtfType) : Type 0 where
@@ -150,7 +151,7 @@ module _ (strings more : List ℕ) (us : List BtfType) where
       (λ e. cond-false _ _ _ e ∙ g (sym (cond-false (bytes_eq n (codes ".ksyms")) (Ok (Some i)) a e) ∙ h)) (cases_Bool (bytes_eq n (codes ".ksyms")))
 
   pub section_grows : (i d : ℕ) (ts : List BtfType) → section_from strings i ts ≡ Ok (Some d) → section_from (strings ++ more) i (ts ++ us) ≡ Ok (Some d)
-  section_grows i d [] h = absurd (some_not d (sym (ok_same _ _ h)))
+  section_grows i d [] h = absurd (none-some d (ok_same _ _ h))
   section_grows i d (t ∷ ts) h =
       ⊎_elim
       (λ e. cond-true _ _ _ e ∙ here_grows (name_at strings t.name_offset) _ i d (section_from strings (suc i) ts) _
@@ -161,12 +162,12 @@ module _ (strings more : List ℕ) (us : List BtfType) where
 here_at : (x : Option (List ℕ)) (i d : ℕ) (a : Result (Option ℕ) Reason) → section_here x i a ≡ Ok (Some d) → (i ≡ d) ⊎ (a ≡ Ok (Some d))
 here_at None i d a h = absurd (err_not _ _ h)
 here_at (Some n) i d a h =
-    ⊎_elim (λ e. inl (some_same i d (ok_same _ _ (sym (cond-true (bytes_eq n (codes ".ksyms")) (Ok (Some i)) a e) ∙ h))))
+    ⊎_elim (λ e. inl (same_Some i d (ok_same _ _ (sym (cond-true (bytes_eq n (codes ".ksyms")) (Ok (Some i)) a e) ∙ h))))
     (λ e. inr (sym (cond-false (bytes_eq n (codes ".ksyms")) (Ok (Some i)) a e) ∙ h)) (cases_Bool (bytes_eq n (codes ".ksyms")))
 
 section_at : (strings : List ℕ) (i d : ℕ) (ts : List BtfType) → section_from strings i ts ≡ Ok (Some d)
     → (k : ℕ) × (i + k ≡ d) × (k < length ts) × (is_data_sec (type_at ts k) ≡ true)
-section_at strings i d [] h = absurd (some_not d (sym (ok_same _ _ h)))
+section_at strings i d [] h = absurd (none-some d (ok_same _ _ h))
 section_at strings i d (t ∷ ts) h =
     let after : section_from strings (suc i) ts ≡ Ok (Some d) → (k : ℕ) × (i + k ≡ d) × (k < length (t ∷ ts)) × (is_data_sec (type_at (t ∷ ts) k) ≡ true) =
     λ g. let r = section_at strings (suc i) d ts g in let s = r.1 in let l = r.2 in (suc r.0, omega arith, omega arith, r.3) in
@@ -374,15 +375,15 @@ longer_declared t u l id d =
 -- ---- the int row and the placeholder
 module _ {X : Type 0} (p : X → Bool) where
   pub lookup_below : (n : ℕ) (xs : List X) (k : ℕ × X) → lookup p n xs ≡ Some k → k.0 < n + length xs
-  lookup_below n [] k e = absurd (some_not k (sym e))
+  lookup_below n [] k e = absurd (none-some k e)
   lookup_below n (x ∷ xs) k e =
       ⊎_elim
-      (λ t. let q : n ≡ k.0 = ap (λ z. z.0) (some_same (n, x) k (sym (cond-true (p x) (Some (n, x)) (lookup p (suc n) xs) t) ∙ e)) in omega arith)
+      (λ t. let q : n ≡ k.0 = ap (λ z. z.0) (same_Some (n, x) k (sym (cond-true (p x) (Some (n, x)) (lookup p (suc n) xs) t) ∙ e)) in omega arith)
       (λ t. let r = lookup_below (suc n) xs k (sym (cond-false (p x) (Some (n, x)) (lookup p (suc n) xs) t) ∙ e) in omega (arith, r)) (cases_Bool (p x))
 
 number_some : {X : Type 0} (o : Option (ℕ × X)) (i : ℕ) → number_of o ≡ Some i → (k : ℕ × X) × (o ≡ Some k) × (k.0 ≡ i)
-number_some None i e = absurd (some_not i (sym e))
-number_some (Some k) i e = (k, refl, some_same k.0 i e)
+number_some None i e = absurd (none-some i e)
+number_some (Some k) i e = (k, refl, same_Some k.0 i e)
 
 pub first_below : (ts : List BtfType) (i : ℕ) → first_int ts ≡ Some i → i < length ts
 first_below ts i e =

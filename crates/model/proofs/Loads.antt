@@ -3,6 +3,7 @@ use Rattle.std.proofs.Common.{◌≡◌, ℕ, suc, ◌+◌, ◌<◌, Bool, true,
 use borrow.Author.Gap.{read_sfits}
 use Rattle.std.proofs.lemmas.List.{length-set, get_or-set_same, get_or-set_other, set_past}
 use Rattle.std.proofs.lemmas.Bool.{cond-true, cond-false, cond_both, cases_Bool, cases_eq, cases_lt, eqb-true, ltb-true}
+use Rattle.std.proofs.lemmas.Option.{none-some}
 use Rattle.model.specs.Externs.{Extern, extern_named}
 use Rattle.model.specs.Laws.{name_in, name_of, Touches, LoadAlone}
 use Rattle.model.specs.Lists.{In}
@@ -19,7 +20,7 @@ use Rattle.model.specs.declared.rows.Span.{Span}
 use Rattle.model.specs.declared.rows.Symbol.{Symbol}
 use Rattle.model.proofs.Followed.{follow_in}
 use Rattle.model.proofs.Granted.{go_on}
-use Rattle.model.proofs.Lookups.{some_not, ok_same, err_not}
+use Rattle.model.proofs.Lookups.{ok_same, err_not}
 
 -- ---- where the relocations taken point
 in_append : {X : Type 0} (xs ys : List X) (x : X) → In x (xs ++ ys) → In x xs ⊎ In x ys
@@ -228,7 +229,7 @@ module _ (xs : List Extern) (ss : Symbols) where
       let by : (p : Result (List Slot) Reason) → patch xs ss t code ≡ p → (go_on xs ss ts code p).1 ≡ None → Stepped t ts code =
       elim [
         | Ok new ↦ λ e k. record { new = new; ok = e; left = k; end = ap (go_on xs ss ts code) e }
-        | Err x ↦ λ e k. absurd (some_not x k)
+        | Err x ↦ λ e k. absurd (none-some x (sym k))
       ] in
       by (patch xs ss t code) refl h
 
@@ -248,7 +249,7 @@ module _ (xs : List Extern) (ss : Symbols) where
 
 -- ---- a load
 symbol_named : (xs : List Extern) (names : List ℕ) (t : Taken) (code : List Slot) (n : Span) (o : Option (ℕ × Symbol)) → name_in o ≡ Some n → patch_symbol xs names o t code ≡ patch_found (extern_named (part names n) xs) n t code
-symbol_named xs names t code n None e = absurd (some_not n (sym e))
+symbol_named xs names t code n None e = absurd (none-some n e)
 symbol_named xs names t code n (Some k) e = ap (λ m. patch_name xs names m t code) e
 
 module _ (xs : List Extern) (ss : Symbols) (t : Taken) (code new : List Slot) (n : Span) (a : ℕ) (k : ℕ × Extern) where

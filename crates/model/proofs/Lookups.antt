@@ -5,19 +5,11 @@ use Rattle.std.specs.List.{list_any, list_all}
 use Rattle.std.specs.Str.{bytes_eq}
 use Rattle.std.proofs.lemmas.Slice.Eq.{bytes_eq-Decides}
 use Rattle.std.proofs.lemmas.Bool.{cond-true, cond-false, true≢false, false≢true, cases_Bool, and_parts, and_from, or_from, or_left, or_right, or_cases, or_parts}
+use Rattle.std.proofs.lemmas.Option.{none-some}
 use Rattle.model.specs.Lists.{In, lookup, numbered, first}
 use Rattle.model.specs.Names.{reads_as}
 
 -- ---- tests, options and results
-pub not_then_false : (b : Bool) → (b ≡ true → ⊥) → b ≡ false
-not_then_false b h = ⊎_elim (λ t. absurd (h t)) (λ f. f) (cases_Bool b)
-
-pub some_not : {X : Type 0} (x : X) → Some x ≡ None → ⊥
-some_not x e = true≢false (ap is_some e)
-
-pub some_same : {X : Type 0} (x y : X) → Some x ≡ Some y → x ≡ y
-some_same x y e = cc
-
 pub ok_same : {X R : Type 0} (x y : X) → ◌≡◌ {A = Result X R} (Ok x) (Ok y) → x ≡ y
 ok_same x y e = cc
 
@@ -34,7 +26,7 @@ none_is (Some x) e = absurd (true≢false e)
 
 pub or_else_parts : {X : Type 0} (x y : Option X) → option_or x y ≡ None → (x ≡ None) × (y ≡ None)
 or_else_parts None y e = (refl, e)
-or_else_parts (Some x) y e = absurd (some_not x e)
+or_else_parts (Some x) y e = absurd (none-some x (sym e))
 
 pub or_else_from : {X : Type 0} (x y : Option X) → x ≡ None → y ≡ None → option_or x y ≡ None
 or_else_from x y p q = ap (λ t. option_or t y) p ∙ q
@@ -42,7 +34,7 @@ or_else_from x y p q = ap (λ t. option_or t y) p ∙ q
 -- a test before a refusal
 pub test_parts : {X : Type 0} (b : Bool) (x : Option X) (y : X) → cond b x (Some y) ≡ None → (b ≡ true) × (x ≡ None)
 test_parts true x y e = (refl, e)
-test_parts false x y e = absurd (some_not y e)
+test_parts false x y e = absurd (none-some y (sym e))
 
 -- a refusal under a test
 pub when_parts : {X : Type 0} (b : Bool) (x : Option X) → cond b x None ≡ None → b ≡ true → x ≡ None
@@ -51,7 +43,7 @@ when_parts b x e t = sym (cond-true b x None t) ∙ e
 -- ---- the first refusal
 numbered_none : {R : Type 0} (n : ℕ) (o : Option (ℕ → R)) → numbered n o ≡ None → o ≡ None
 numbered_none n None e = refl
-numbered_none n (Some f) e = absurd (some_not (f n) e)
+numbered_none n (Some f) e = absurd (none-some (f n) (sym e))
 
 module _ {X R : Type 0} (why : X → Option (ℕ → R)) where
   pub first_none : (n : ℕ) (xs : List X) → ((x : X) → In x xs → why x ≡ None) → first why n xs ≡ None
@@ -99,7 +91,7 @@ mapped f (Some k) = Some (k.0, f k.1)
 
 module _ {X : Type 0} (p : X → Bool) where
   pub lookup_in : (n : ℕ) (xs : List X) (k : ℕ × X) → lookup p n xs ≡ Some k → In k.1 xs × (p k.1 ≡ true)
-  lookup_in n [] k e = absurd (some_not k (sym e))
+  lookup_in n [] k e = absurd (none-some k e)
   lookup_in n (x ∷ xs) k e =
       ⊎_elim
       (λ t. let q : (n, x) ≡ k = let s = sym (cond-true (p x) (Some (n, x)) (lookup p (suc n) xs) t) ∙ e in cc in
@@ -111,7 +103,7 @@ module _ {X : Type 0} (p : X → Bool) where
   lookup_none n [] e x i = absurd i
   lookup_none n (y ∷ ys) e x i =
       ⊎_elim
-      (λ t. absurd (some_not (n, y) (sym (cond-true (p y) (Some (n, y)) (lookup p (suc n) ys) t) ∙ e)))
+      (λ t. absurd (none-some (n, y) (sym e ∙ cond-true (p y) (Some (n, y)) (lookup p (suc n) ys) t)))
       (λ t. ⊎_elim (λ q. ap p (sym q) ∙ t) (λ j. lookup_none (suc n) ys (sym (cond-false (p y) (Some (n, y)) (lookup p (suc n) ys) t) ∙ e) x j) i)
       (cases_Bool (p y))
 

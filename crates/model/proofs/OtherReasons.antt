@@ -2,6 +2,7 @@
 use Rattle.std.proofs.Common.{◌≡◌, ℕ, suc, Bool, true, false, cond, eqb, List, [], ◌∷◌, map, ℤ, is_some, Some, None, Ok, Err, Option, Result, sym, refl, ap, ◌∙◌}
 use Rattle.std.specs.Option.{option_or}
 use Rattle.std.proofs.lemmas.Bool.{cond_both, eq-eqb, true≢false}
+use Rattle.std.proofs.lemmas.Option.{same_Some}
 use Rattle.kallsyms.specs.declared.ends.End.{End}
 use Rattle.kallsyms.specs.declared.ends.End.TheVariants.{Clean, Broken}
 use Rattle.model.specs.Externs.{Extern}
@@ -23,14 +24,13 @@ use Rattle.model.specs.declared.rows.Slot.{Slot}
 use Rattle.model.specs.declared.rows.Span.{Span}
 use Rattle.model.specs.declared.rows.Symbol.{Symbol}
 use Rattle.model.proofs.Granted.{go_on}
-use Rattle.model.proofs.Lookups.{some_same}
 
 -- ---- a reason of another number than 1
 abbrev Other : Reason → Type 0
 Other r = (told r).number ≡ Some 1 → ⊥
 
 other : (n : ℕ) → eqb n 1 ≡ false → Some n ≡ Some 1 → ⊥
-other n f e = true≢false (sym (eq-eqb n 1 (some_same n 1 e)) ∙ f)
+other n f e = true≢false (sym (eq-eqb n 1 (same_Some n 1 e)) ∙ f)
 
 abbrev Others : Option Reason → Type 0
 Others None = Unit {0}
@@ -154,7 +154,7 @@ reason_other (relocate p) st = patched_other st.object.externs p.symbols (taken 
 
 others_not : (o : Option Reason) → Others o → o ≡ Some InvalidTable → ⊥
 others_not None h e = true≢false (ap is_some (sym e))
-others_not (Some r) h e = h (ap (λ x. (told x).number) (some_same r InvalidTable e))
+others_not (Some r) h e = h (ap (λ x. (told x).number) (same_Some r InvalidTable e))
 
 pub reason_not : (s : Step) (st : State) → reason s st ≡ Some InvalidTable → ⊥
 reason_not s st = others_not (reason s st) (reason_other s st)

@@ -3,6 +3,7 @@ use Rattle.std.proofs.Common.{◌≡◌, ℕ, suc, ◌+◌, ◌/◌, ◌^◌, �
 use Rattle.std.specs.List.{list_all}
 use Rattle.std.specs.Str.{bytes_eq}
 use Rattle.std.proofs.lemmas.Bool.{cond-true, cond-false, cond_both, cases_Bool, and_parts, and_from, or_parts, ltb-true}
+use Rattle.std.proofs.lemmas.Option.{none-some, same_Some}
 use Rattle.kallsyms.specs.Address.{address, number, unsigned, limited}
 use Rattle.kallsyms.specs.Fields.{fields, field}
 use Rattle.kallsyms.specs.declared.ends.End.{End}
@@ -27,15 +28,15 @@ use Rattle.model.proofs.Grants.{judged}
 use Rattle.model.proofs.History.{Kept, kept_name, kept_typed, change, next_change, change_kept, after, runs_after, after_kept}
 use Rattle.model.proofs.Listed.{line_address, short_not, found_in}
 use Rattle.model.proofs.Loads.{Paired, loads_hold}
-use Rattle.model.proofs.Lookups.{some_not, some_same, some_is, none_is, mapped, lookup_in, lookup_map, in_map, map_in, same_is, is_same}
+use Rattle.model.proofs.Lookups.{some_is, none_is, mapped, lookup_in, lookup_map, in_map, map_in, same_is, is_same}
 use Rattle.model.proofs.Slotted.{loads_address, slots_length}
 
 -- ---- an address that a line says is below 2 ^ 64
 limited_below : (o : Option ℕ) (a : ℕ) → limited o ≡ Some a → a < 2 ^ 64
-limited_below None a e = absurd (some_not a (sym e))
+limited_below None a e = absurd (none-some a e)
 limited_below (Some n) a e =
     cond_both (ltb n (2 ^ 64)) (Some n) None (λ o. o ≡ Some a → a < 2 ^ 64)
-    (λ t q. subst (λ z. z < 2 ^ 64) (some_same n a q) (ltb-true n _ t)) (λ _ q. absurd (some_not a (sym q))) e
+    (λ t q. subst (λ z. z < 2 ^ 64) (same_Some n a q) (ltb-true n _ t)) (λ _ q. absurd (none-some a q)) e
 
 said_below : (l n : List ℕ) (a : ℕ) → said l ≡ line n (Some a) → a < 2 ^ 64
 said_below l n a =
@@ -64,12 +65,12 @@ module _ (c : Option Catalogue) (ls : List Line) (p : Extern) (a : ℕ) (nonzero
       cond_both (is_some p.typed) _ _ (λ (x : Extern). x.address ≡ Some a → Took x) (λ _. id_took (fitting_id c p))
       (λ t. cond_both (p.resolved || eqb (first_address p.name ls) 0) p (resolved_to p.id (Some (first_address p.name ls)) p) (λ (x : Extern). x.address ≡ Some a → Took x)
       (λ _ e. absurd (other e))
-      (λ o e. record { typeless = none_is _ t; wants = and_from _ _ (ap not t) (ap not (or_parts _ _ o).0); is = some_same _ _ e; mark = refl }))
+      (λ o e. record { typeless = none_is _ t; wants = and_from _ _ (ap not t) (ap not (or_parts _ _ o).0); is = same_Some _ _ e; mark = refl }))
 
   given_took : (given c ls p).address ≡ Some a → Took (given c ls p)
   given_took =
       cond_both ((settled c ls p).resolved || not (settled c ls p).weak) (settled c ls p) (addressed 0 (settled c ls p)) (λ (x : Extern). x.address ≡ Some a → Took x)
-      (λ _. found_took) (λ _ e. absurd (nonzero (sym (some_same 0 a e))))
+      (λ _. found_took) (λ _ e. absurd (nonzero (sym (same_Some 0 a e))))
 
 change_took :
     (c : Option Catalogue) (ls : List (List ℕ)) (e : End) (st : State) (p : Extern) (a : ℕ) (nonzero : a ≡ 0 → ⊥) (other : p.address ≡ Some a → ⊥)
@@ -149,7 +150,7 @@ module _
     pub resolution_stands : Stands s n a (runs later there)
     resolution_stands =
         ⊎_elim
-        (λ k. absurd (some_not a (sym gives ∙ ap address_in (named_next n s here ∙ ap (mapped (change s here)) (named_after n before st ∙ ap (mapped (after before st)) k)))))
+        (λ k. absurd (none-some a (sym (sym gives ∙ ap address_in (named_next n s here ∙ ap (mapped (change s here)) (named_after n before st ∙ ap (mapped (after before st)) k))))))
         (λ k.
         let r = k.0.1 in
         let p = after before st r in

@@ -2,6 +2,7 @@
 use Rattle.std.proofs.Common.{◌≡◌, ℕ, ◌/◌, ◌%◌, ◌<◌, ◌≤◌, Bool, true, false, ◌&&◌, ◌||◌, eqb, ltb, leb, ◌⊎◌, ◌↔◌, List, [], ◌∷◌, ◌++◌, length, Some, None, Option, sym, refl, ap, ◌∙◌, subst, inl, inr, ⊎_elim, arith}
 use Rattle.std.specs.List.{list_all}
 use Rattle.std.proofs.lemmas.Bool.{false≢true, cases_Bool, and_parts, and_from, or_left, or_right, or_from, or_parts, or_cases, ltb-true, lt-ltb, leb-true, le-leb, eqb-true, eq-eqb}
+use Rattle.std.proofs.lemmas.Option.{none-some, same_Some}
 use Rattle.model.specs.Chain.{type_at}
 use Rattle.model.specs.Collected.{Collected, collected_if_any, object_fits}
 use Rattle.model.specs.Externs.{Extern, Object}
@@ -19,7 +20,7 @@ use Rattle.model.specs.declared.rows.Relocation.{Relocation}
 use Rattle.model.specs.declared.rows.Span.{Span}
 use Rattle.model.specs.declared.rows.Symbol.{Symbol}
 use Rattle.model.proofs.Followed.{follow_is}
-use Rattle.model.proofs.Lookups.{all_in, in_all, some_not, some_same}
+use Rattle.model.proofs.Lookups.{all_in, in_all}
 use Rattle.model.proofs.Tested.{collected_test}
 use Rattle.model.proofs.Grown.{Fits, fits_is, is_fit}
 use Rattle.model.proofs.Fixes.{object_parts, object_collected}
@@ -142,8 +143,8 @@ indices_ascend ss =
     (λ s t u a b. omega arith) ss
 
 inside_is : (names : List ℕ) (o : Option Span) → inside_if_any names o ≡ true → (n : Span) → o ≡ Some n → end_of n ≤ length names
-inside_is names None h n e = absurd (some_not n (sym e))
-inside_is names (Some m) h n e = subst (λ (z : Span). end_of z ≤ length names) (some_same m n e) (leb-true _ _ h)
+inside_is names None h n e = absurd (none-some n e)
+inside_is names (Some m) h n e = subst (λ (z : Span). end_of z ≤ length names) (same_Some m n e) (leb-true _ _ h)
 
 is_inside : (names : List ℕ) (o : Option Span) → ((n : Span) → o ≡ Some n → end_of n ≤ length names) → inside_if_any names o ≡ true
 is_inside names None h = refl

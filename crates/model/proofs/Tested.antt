@@ -3,6 +3,7 @@ use Rattle.std.proofs.Common.{◌≡◌, ℕ, Bool, true, not, ◌&&◌, List, [
 use Rattle.std.specs.List.{list_any, list_all}
 use Rattle.std.specs.Str.{bytes_eq}
 use Rattle.std.proofs.lemmas.Bool.{true≢false, false≢true, cases_Bool, and_parts, and_from, not-true, not_from_false}
+use Rattle.std.proofs.lemmas.Option.{none-some, same_Some}
 use Rattle.model.specs.Chain.{type_at}
 use Rattle.model.specs.Collect.{section_of, entries_of}
 use Rattle.model.specs.Collected.{declares, Distinct, Collected, distinct, placeholder_fits, found_fits, externs_fit, collected_if_any}
@@ -14,7 +15,7 @@ use Rattle.model.specs.StepLaws.{CollectedIsTested}
 use Rattle.model.specs.Tables.{Tables}
 use Rattle.model.specs.declared.btf.DataSecEntry.{DataSecEntry}
 use Rattle.model.specs.declared.refusal.Reason.{Reason}
-use Rattle.model.proofs.Lookups.{some_not, some_same, all_in, in_all, none_any, any_none, is_same, not_same, reads_is, is_read}
+use Rattle.model.proofs.Lookups.{all_in, in_all, none_any, any_none, is_same, not_same, reads_is, is_read}
 
 -- ---- distinct names
 pub distinct_is : (xs : List Extern) → distinct xs ≡ true → Distinct xs
@@ -35,10 +36,10 @@ module _ (t : Tables) (es : List DataSecEntry) where
       → ((q : ℕ) → p ≡ Some q → declares t q ≡ true)
       × ((e : DataSecEntry) → In e es → is_func (type_at t.types e.btf_type) ≡ true → is_some p ≡ true)
   placeholder_is None h = (
-    (λ q e. absurd (some_not q (sym e))),
+    (λ q e. absurd (none-some q e)),
     λ e i f. absurd (true≢false (sym f ∙ any_none (λ (x : DataSecEntry). is_func (type_at t.types x.btf_type)) es (not-true _ h) e i)),
   )
-  placeholder_is (Some p) h = ((λ q e. ap (declares t) (sym (some_same p q e)) ∙ h), λ e i f. refl)
+  placeholder_is (Some p) h = ((λ q e. ap (declares t) (sym (same_Some p q e)) ∙ h), λ e i f. refl)
 
   pub is_placeholder : (p : Option ℕ)
       → ((q : ℕ) → p ≡ Some q → declares t q ≡ true)

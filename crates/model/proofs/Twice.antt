@@ -3,6 +3,7 @@ use Rattle.std.proofs.Common.{◌≡◌, ℕ, suc, ◌+◌, ◌*◌, ◌<◌, �
 use Rattle.std.specs.List.{range_with_len}
 use Rattle.std.proofs.lemmas.List.{length-set, set-get_or, get_or-set_same, get_or-set_other}
 use Rattle.std.proofs.lemmas.Bool.{true≢false, cases_Bool, cases_eq, cond-true, cond-false, and_left, or_cases, eqb-true, ne_eqb}
+use Rattle.std.proofs.lemmas.Option.{none-some, same_Some}
 use Rattle.model.specs.Added.{int_row, is_int_of_four, first_int, with_int, room_for_int}
 use Rattle.model.specs.Chain.{no_row, type_at}
 use Rattle.model.specs.Collected.{Collected, object_fits}
@@ -15,7 +16,6 @@ use Rattle.model.specs.declared.btf.BtfType.{BtfType}
 use Rattle.model.specs.declared.btf.DataSecEntry.{DataSecEntry}
 use Rattle.model.specs.declared.refusal.Reason.TheVariants.{NoRoom}
 use Rattle.model.specs.declared.rows.Span.{Span}
-use Rattle.model.proofs.Lookups.{some_not, some_same}
 use Rattle.model.proofs.Grown.{alike_length, alike_at, Fits, Rewritten, rewritten_same, rewritten_on, Declared, declared_is, longer_at, longer_length, longer_entries}
 use Rattle.model.proofs.Fixes.{at_set, part_in, id_at, row_at, by_entry, entry_rewritten, entry_id, entry_other, after, entries_keep, entries_rewritten, begin, size, gone, section_rewritten, with_one, done, done_is, one_longer, found_row, one_section, one_fits, one_declared, done_found, object_parts, object_collected}
 
@@ -229,13 +229,13 @@ same_first n (t ∷ ts) (u ∷ us) e h =
 
 number_none : {X : Type 0} (o : Option (ℕ × X)) → number_of o ≡ None → o ≡ None
 number_none None e = refl
-number_none (Some k) e = absurd (some_not k.0 e)
+number_none (Some k) e = absurd (none-some k.0 (sym e))
 
 first_push : (n : ℕ) (ts : List BtfType) (u : BtfType) → is_int_of_four u ≡ true → lookup is_int_of_four n ts ≡ None
     → number_of (lookup is_int_of_four n (ts ++ u ∷ [])) ≡ Some (n + length ts)
 first_push n [] u i e = let on : n ≡ n + 0 = omega arith in ap number_of (cond-true (is_int_of_four u) (Some (n, u)) None i) ∙ ap Some on
 first_push n (t ∷ ts) u i e =
-    ⊎_elim (λ b. absurd (some_not (n, t) (sym (cond-true (is_int_of_four t) (Some (n, t)) (lookup is_int_of_four (suc n) ts) b) ∙ e)))
+    ⊎_elim (λ b. absurd (none-some (n, t) (sym e ∙ cond-true (is_int_of_four t) (Some (n, t)) (lookup is_int_of_four (suc n) ts) b)))
     (λ b.
     let on : suc n + length ts ≡ n + suc (length ts) = omega arith in
     ap number_of (cond-false (is_int_of_four t) (Some (n, t)) (lookup is_int_of_four (suc n) (ts ++ u ∷ [])) b)
@@ -254,8 +254,8 @@ GlobalVar p t = (q : ℕ) → p ≡ Some q → (is_var (type_at t.types q) ≡ t
 
 -- the int row is the type of the placeholder
 int_is : (p : Option ℕ) (t : Tables) (q : ℕ) → p ≡ Some q → (type_at t.types q).size_or_type ≡ (with_int (int_of p t.types) t).0
-int_is None t q e = absurd (some_not q (sym e))
-int_is (Some r) t q e = ap (λ j. (type_at t.types j).size_or_type) (sym (some_same r q e))
+int_is None t q e = absurd (none-some q e)
+int_is (Some r) t q e = ap (λ j. (type_at t.types j).size_or_type) (sym (same_Some r q e))
 
 int_again : (p : Option ℕ) (v : Tables) (int : ℕ) → ((q : ℕ) → p ≡ Some q → Good v.types int q) → (p ≡ None → first_int v.types ≡ Some int) → int_of p v.types ≡ Some int
 int_again None v int g f = f refl

@@ -2,6 +2,7 @@
 use Rattle.std.proofs.Common.{◌≡◌, ℕ, suc, ◌/◌, Bool, true, false, cond, not, ◌&&◌, ◌||◌, eqb, leb, List, [], ◌∷◌, map, length, is_some, is_ok, Some, None, Ok, Err, Option, Result, sym, refl, ap, ◌∙◌, subst, inl, inr, ⊎_elim}
 use Rattle.std.specs.Str.{bytes_eq}
 use Rattle.std.proofs.lemmas.Bool.{cond-true, cond-false, cond_both, cases_Bool, and_from, and_left, and_right, or_left}
+use Rattle.std.proofs.lemmas.Option.{none-some}
 use Rattle.kallsyms.specs.declared.ends.End.{End}
 use Rattle.model.specs.Collect.{collect, section_of}
 use Rattle.model.specs.Collected.{declares, distinct, found_fits, externs_fit, collected_if_any, object_fits}
@@ -27,7 +28,7 @@ use Rattle.model.specs.declared.rows.Symbol.{Symbol}
 use Rattle.model.proofs.Granted.{granted_parts, granted_from, Clear, clear, lines_parts, lines_from, none_missing, go_on}
 use Rattle.model.proofs.Grants.{row_fits}
 use Rattle.model.proofs.History.{given_kept, kept_weak}
-use Rattle.model.proofs.Lookups.{some_not, err_not, or_else_from, when_parts, first_none, none_first}
+use Rattle.model.proofs.Lookups.{err_not, or_else_from, when_parts, first_none, none_first}
 use Rattle.model.proofs.WeakCollect.{rows_masked, changed_is, symbols_fit_weak, masked_length, in_masked, map_masked, any_masked, all_masked, Found, lookup_masked, weaker, weakened, weakened_object, Alike, collect_alike}
 
 abbrev weakened_state : (ℕ → Bool) → State → State
@@ -115,7 +116,7 @@ settled_weak c ls b x =
     (λ i. cond (is_some x.typed) (by_id i) (by_address i)) ∙ cond_weak b (is_some x.typed) (given_id (fitting_id c x) x) (given_address a x)
 
 fits_id : (c : Option Catalogue) (x : Extern) → catalogue_refusal c x ≡ None → (i : ℕ) × (fitting_id c x ≡ Some i)
-fits_id None x h = absurd (some_not _ h)
+fits_id None x h = absurd (none-some _ (sym h))
 fits_id (Some c) x h =
     let k = row_fits x (candidate c x) h in
     (k.0.1.id, ap id_if_fits k.1 ∙ cond-true _ _ _ k.2)
@@ -131,7 +132,7 @@ strong_resolved c ls x h k w =
     (λ o. ⊎_elim (λ y. y)
     (λ y.
     let z : eqb (first_address x.name ls) 0 ≡ true = ap (λ v. v || eqb (first_address x.name ls) 0) (sym y) ∙ o in
-    absurd (some_not _ (when_parts ((wanted x && not x.weak) && eqb (first_address x.name ls) 0) (Some _) k (and_from _ _ (and_from _ _ (and_from _ _ (ap not t) (ap not y)) (ap not w)) z))))
+    absurd (none-some _ (sym (when_parts ((wanted x && not x.weak) && eqb (first_address x.name ls) 0) (Some _) k (and_from _ _ (and_from _ _ (and_from _ _ (ap not t) (ap not y)) (ap not w)) z)))))
     (cases_Bool x.resolved))
     (λ _. refl))
 
@@ -204,7 +205,7 @@ patched_weak m xs ss (t ∷ ts) code h =
     let again : (p : Result (List Slot) Reason) → patch xs ss t code ≡ p → (go_on xs ss ts code p).1 ≡ None → go_on (weakened m xs) ss ts code (patch (weakened m xs) ss t code) ≡ go_on xs ss ts code p =
     elim [
       | Ok new ↦ λ e k. ap (go_on (weakened m xs) ss ts code) (patch_weak code t m xs ss new e) ∙ patched_weak m xs ss ts new k
-      | Err e ↦ λ q k. absurd (some_not e k)
+      | Err e ↦ λ q k. absurd (none-some e (sym k))
     ] in
     again (patch xs ss t code) refl h
 

@@ -3,7 +3,7 @@ use Rattle.std.proofs.Common.{◌≡◌, ℕ, ◌+◌, ◌≤◌, Bool, true, co
 use Rattle.std.specs.List.{list_any, list_all}
 use Rattle.std.specs.Str.{bytes_eq}
 use Rattle.std.proofs.lemmas.List.{length-map, length-append}
-use Rattle.std.proofs.lemmas.Bool.{cond-true, cond-false, cond_both, cases_Bool, and_from, and_right}
+use Rattle.std.proofs.lemmas.Bool.{cond-true, cond-false, cond_both, cases_Bool, and_from, and_right, false_from_ne_true}
 use Rattle.model.specs.Added.{int_name, int_row, with_int}
 use Rattle.model.specs.Collect.{section_of}
 use Rattle.model.specs.Collected.{declares, distinct, found_fits, externs_fit, collected_if_any, object_fits}
@@ -26,7 +26,6 @@ use Rattle.model.proofs.Grants.{after_calls}
 use Rattle.model.proofs.History.{Kept, given_kept, kept_name, after, runs_after}
 use Rattle.model.proofs.Grown.{alike_length}
 use Rattle.model.proofs.Left.{refused_changes_nothing}
-use Rattle.model.proofs.Lookups.{not_then_false}
 use Rattle.model.proofs.OtherReasons.{reason_not}
 use Rattle.model.proofs.Stands.{call_stands, named_row}
 use Rattle.model.proofs.Twice.{GlobalVar, fixed_twice}
@@ -94,7 +93,7 @@ stays_well_formed =
           let here = runs before st in
           let fit = (runs_sound before st (start_sound st start)).fit in (
             λ e.
-                not_then_false (brings_fit s here.code)
+                false_from_ne_true (brings_fit s here.code)
                 (λ b. reason_not s here (sym (cond-true (fits s here) (reason s here) (Some InvalidTable) (and_from _ _ fit b)) ∙ e)),
             λ b. cond-false (fits s here) (reason s here) (Some InvalidTable) (and_right (object_fits here.object) _ b),
           );
