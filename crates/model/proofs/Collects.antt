@@ -6,6 +6,7 @@ use Rattle.std.specs.Str.{bytes_eq}
 use Rattle.std.proofs.lemmas.List.{length_push, get_or_push, drop_at}
 use Rattle.std.proofs.lemmas.Bool.{true≢false, cases_Bool, cond-true, cond-false, and_parts, and_from, or_left, or_right, or_cases, ltb-true}
 use Rattle.std.proofs.lemmas.Option.{none-some, same_Some}
+use Rattle.std.proofs.lemmas.Slice.Eq.{bytes_eq-Decides}
 use Rattle.model.specs.Added.{placeholder_row, placeholder_name, added, first_int, with_int}
 use Rattle.model.specs.Chain.{no_row, type_at, chain, resolve_type}
 use Rattle.model.specs.Collect.{section_of, entries_of, has_func, fresh, symbol_named, chain_read, symbol_read, name_read, row_read, entry_read, duplicate, room_for_func, room_refusal, made, granted_unless, collect_rows, collect_entries, collect_section, collect}
@@ -22,7 +23,7 @@ use Rattle.model.specs.declared.btf.ChainError.{ChainError}
 use Rattle.model.specs.declared.btf.DataSecEntry.{DataSecEntry}
 use Rattle.model.specs.declared.refusal.Reason.{Reason}
 use Rattle.model.specs.declared.rows.Symbol.{Symbol}
-use Rattle.model.proofs.Lookups.{ok_same, err_not, any_none, is_same}
+use Rattle.model.proofs.Lookups.{ok_same, err_not, any_none, or_else_parts}
 use Rattle.model.proofs.Tested.{collected_test}
 use Rattle.model.proofs.Grown.{Fits, fits_is, is_fit, Longer, longer_same, longer_added, longer_on, longer_section, longer_entries, longer_name, longer_at, Declared, is_declared, longer_declared, section_is, first_below, int_longer, int_below, placeholder_fits_in}
 
@@ -151,7 +152,7 @@ apart : (before : List Extern) (n : ℕ) (xs : List Extern) → duplicate before
 apart before n [] h y x j i e = i
 apart before n (z ∷ xs) h y x j i e =
     let p = unless_parts (list_any (λ (w : Extern). bytes_eq w.name z.name) before) _ _ h in
-    ⊎_elim (λ q. true≢false (sym (is_same y.name z.name (e ∙ ap (λ (w : Extern). w.name) (sym q))) ∙ any_none (λ (w : Extern). bytes_eq w.name z.name) before p.0 y j))
+    ⊎_elim (λ q. true≢false (sym ((bytes_eq-Decides y.name z.name).1 (e ∙ ap (λ (w : Extern). w.name) (sym q))) ∙ any_none (λ (w : Extern). bytes_eq w.name z.name) before p.0 y j))
     (λ k. apart (z ∷ before) (suc n) xs p.1 y x (inr j) k e) i
 
 pub names_apart : (before : List Extern) (n : ℕ) (xs : List Extern) → duplicate before n xs ≡ None → Distinct xs
@@ -173,10 +174,6 @@ pub record Passed (t : Tables) (ss : Symbols) (o : Object) : Type 0 where
   pub room : room_for_func func t ≡ true
   pub is : made func rows t ≡ o
 
-else_parts : (x y : Option Reason) → option_or x y ≡ None → (x ≡ None) × (y ≡ None)
-else_parts None y e = (refl, e)
-else_parts (Some x) y e = absurd (none-some x (sym e))
-
 room_is : (func : Bool) (xs : List Extern) (t : Tables) → room_refusal func xs t ≡ None → (leb (length xs) MAX_EXTERNS ≡ true) × (room_for_func func t ≡ true)
 room_is func xs t h =
     ⊎_elim (λ e. and_parts _ _ e) (λ e. absurd (none-some _ (sym h ∙ cond-false (leb (length xs) MAX_EXTERNS && room_for_func func t) _ _ e)))
@@ -196,7 +193,7 @@ module _ (t : Tables) (ss : Symbols) (o : Object) where
     rows_are func f (Err e) r h = absurd (err_not _ _ h)
     rows_are func f (Ok xs) r h =
         let u = unless_is (option_or (duplicate [] at xs) (room_refusal func xs t)) (made func xs t) o h in
-        let p = else_parts (duplicate [] at xs) (room_refusal func xs t) u.0 in
+        let p = or_else_parts (duplicate [] at xs) (room_refusal func xs t) u.0 in
         let q = room_is func xs t p.1 in
         record { section = d; func = func; rows = xs; found = found; has = f; read = r; apart = p.0; few = q.0; room = q.1; is = u.1 }
 

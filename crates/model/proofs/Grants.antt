@@ -4,6 +4,7 @@ use Rattle.std.specs.List.{list_any}
 use Rattle.std.proofs.lemmas.Bool.{cond-true, cond-false, cond_both, both_ways, false≢true, cases_Bool, eqb-true, eqb-false, eq-eqb, and_parts, and_from, or_left, or_right, or_cases, not-true}
 use Rattle.std.specs.Str.{bytes_eq}
 use Rattle.std.proofs.lemmas.Option.{none-some}
+use Rattle.std.proofs.lemmas.Slice.Eq.{bytes_eq-Decides}
 use Rattle.kallsyms.specs.declared.ends.End.{End}
 use Rattle.kallsyms.specs.declared.ends.End.TheVariants.{Clean, Broken}
 use Rattle.model.specs.Externs.{Extern}
@@ -19,7 +20,7 @@ use Rattle.model.specs.declared.rows.CatalogueRow.{CatalogueRow}
 use Rattle.model.proofs.Granted.{Clear, clear, clear_granted, lines_parts, lines_from, none_missing}
 use Rattle.model.proofs.History.{marked, Kept, kept_name, kept_weak, after, runs_after, after_kept, wanted-Wanted, Wanted-wanted}
 use Rattle.model.proofs.Listed.{found_in, in_found}
-use Rattle.model.proofs.Lookups.{some_is, first_none, none_first, any_in, any_some, lookup_in, lookup_none, in_map, map_in, same_is, same_refl, when_parts}
+use Rattle.model.proofs.Lookups.{some_is, first_none, none_first, any_in, any_some, lookup_in, lookup_none, in_map, map_in, when_parts}
 
 -- ---- one line
 refused_parts : (x : Extern) (i a : ℕ) (o : Option ℕ) → address_refusal x i a o ≡ None → (is_some o ≡ true) × ((b : ℕ) → o ≡ Some b → (b ≡ 0 → ⊥) → a ≡ b)
@@ -52,7 +53,7 @@ judged rows ls e r o h i w j =
     let has : Extern → Bool = λ q. wanted q && bytes_eq q.name r.name in
     let p = none_first (line_refusal rows ls) 0 ls (lines_parts rows ls e h (any_in wanted rows r i w)).0 (line r.name o) j in
     ⊎_elim
-    (λ k. absurd (both_ways _ (lookup_none has 0 rows k r i) (and_from _ _ w (same_refl r.name))))
+    (λ k. absurd (both_ways _ (lookup_none has 0 rows k r i) (and_from _ _ w ((bytes_eq-Decides r.name r.name).1 refl))))
     (λ k. refused_parts k.0.1 k.0.0 (first_address r.name ls) o (sym (ap (λ q. wanted_refusal q (first_address r.name ls) o) k.1) ∙ p))
     (some_is (lookup has 0 rows))
 
@@ -109,7 +110,7 @@ module _
           let t = and_parts _ _ p.1 in
           let r = q.0 in
           let w = to r q.1 (ap wanted q.2 ∙ t.0) in
-          let e' : r.name ≡ n = sym (kept_name (kept r)) ∙ ap (λ x. x.name) q.2 ∙ same_is _ _ t.1 in
+          let e' : r.name ≡ n = sym (kept_name (kept r)) ∙ ap (λ x. x.name) q.2 ∙ (bytes_eq-Decides _ _).0 t.1 in
           let j : In (line r.name o) ls = subst (λ m. In (line m o) ls) (sym e') i in
           ap (λ x. wanted_refusal x (first_address n ls) o) k.1
           ∙ refused_from k.0.1 k.0.0 (first_address n ls) o (c.reads r o q.1 w j)

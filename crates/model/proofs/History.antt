@@ -2,6 +2,7 @@
 use Rattle.std.proofs.Common.{◌≡◌, ℕ, Bool, true, false, cond, not, ◌||◌, eqb, List, [], ◌∷◌, map, is_some, Some, None, Option, sym, refl, ap, ◌∙◌, subst, inl, inr, ⊎_elim}
 use Rattle.std.proofs.lemmas.List.{map-id}
 use Rattle.std.proofs.lemmas.Bool.{cond-true, cond-false, cond_both, both_ways, true≢false, cases_Bool, eqb-true, eqb-false, and_parts, and_from, or_parts, or_left, or_cases, not-true}
+use Rattle.std.proofs.lemmas.Simd.{map-map}
 use Rattle.model.specs.Laws.{ListedBy, FoundBy, Wanted}
 use Rattle.model.specs.Externs.{Extern, Object, resolved_to, addressed}
 use Rattle.model.specs.Lines.{Line, said, first_address}
@@ -106,15 +107,11 @@ unfoldable pub after : List Step → State → Extern → Extern
 after [] st r = r
 after (s ∷ ss) st r = after ss (next s st) (change s st r)
 
-map_both : {X : Type 0} (f g : X → X) (xs : List X) → map g (map f xs) ≡ map (λ x. g (f x)) xs
-map_both f g [] = refl
-map_both f g (x ∷ xs) = ap (λ ys. g (f x) ∷ ys) (map_both f g xs)
-
 pub runs_after : (ss : List Step) (st : State) → (runs ss st).object.externs ≡ map (after ss st) st.object.externs
 unfolding after
 runs_after [] st = sym (map-id st.object.externs)
 runs_after (s ∷ ss) st =
-    runs_after ss (next s st) ∙ ap (map (after ss (next s st))) (next_change s st) ∙ map_both (change s st) (after ss (next s st)) st.object.externs
+    runs_after ss (next s st) ∙ ap (map (after ss (next s st))) (next_change s st) ∙ map-map (after ss (next s st)) (change s st) st.object.externs
 
 pub after_kept : (ss : List Step) (st : State) (r : Extern) → Kept r (after ss st r)
 unfolding after

@@ -20,7 +20,7 @@ use Rattle.model.specs.declared.rows.Span.{Span}
 use Rattle.model.specs.declared.rows.Symbol.{Symbol}
 use Rattle.model.proofs.Followed.{follow_in}
 use Rattle.model.proofs.Granted.{go_on}
-use Rattle.model.proofs.Lookups.{ok_same, err_not}
+use Rattle.model.proofs.Lookups.{ok_same, err_not, in_map}
 
 -- ---- where the relocations taken point
 in_append : {X : Type 0} (xs ys : List X) (x : X) → In x (xs ++ ys) → In x xs ⊎ In x ys
@@ -43,11 +43,6 @@ taken_in_of f n (r ∷ rs) t i =
 taken_of : (fs : List Function) (rs : List Relocation) (t : Taken) → In t (taken fs rs) → In t.function fs
 taken_of [] rs t i = absurd i
 taken_of (f ∷ fs) rs t i = ⊎_elim (λ j. inl (taken_in_of f 0 rs t j)) (λ j. inr (taken_of fs rs t j)) (in_append (taken_in f 0 rs) (taken fs rs) t i)
-
-slots_in : (fs : List Function) (f : Function) → In f fs → In f.slots (slots_of fs)
-slots_in [] f i = absurd i
-slots_in (g ∷ fs) f (inl e) = inl (ap (λ f. f.slots) e)
-slots_in (g ∷ fs) f (inr i) = inr (slots_in fs f i)
 
 -- ---- what one relocation changes
 abbrev pub EachFits : List Slot → Type 0
@@ -310,7 +305,7 @@ loads_hold xs p code n a k row id address spans g front t back split alone =
     let r = reached xs ss code front t back code (record { size = refl; same = λ _. refl }) h in
     let s = r.step in
     let l = load_new xs ss t r.here s.new alone.place a k s.ok alone.symbol (ap (λ m. extern_named m xs) alone.name ∙ row) id address (ap (λ c. eqb c LOAD) (r.same.same (slot_index t)) ∙ alone.load) in
-    let span = follow_in (length code) 0 (slots_of p.functions) spans _ (slots_in p.functions t.function (taken_of p.functions p.relocations t (subst (In t) (sym split) (in_right front (t ∷ back) t (inl refl))))) in
+    let span = follow_in (length code) 0 (slots_of p.functions) spans _ (in_map (λ (f : Function). f.slots) p.functions t.function (taken_of p.functions p.relocations t (subst (In t) (sym split) (in_right front (t ∷ back) t (inl refl))))) in
     let room : slot_index t + 1 < length r.here = subst (λ m. slot_index t + 1 < m) (sym r.same.size) (let x = ltb-true _ _ l.0 in omega arith) in
     let b = pair_holds r.here (slot_index t) a room in
     let codes = codes_more xs ss code r.here s.new t r.same s.ok in

@@ -128,21 +128,12 @@ map_in f (x ∷ xs) y (inl q) = (x, inl refl, q)
 map_in f (x ∷ xs) y (inr i) = let r = map_in f xs y i in (r.0, inr r.1, r.2)
 
 -- ---- names
-pub same_is : (m n : List ℕ) → bytes_eq m n ≡ true → m ≡ n
-same_is m n e = (bytes_eq-Decides m n).0 e
-
-pub is_same : (m n : List ℕ) → m ≡ n → bytes_eq m n ≡ true
-is_same m n e = (bytes_eq-Decides m n).1 e
-
 pub not_same : (m n : List ℕ) → (m ≡ n → ⊥) → bytes_eq m n ≡ false
-not_same m n h = ⊎_elim (λ t. absurd (h (same_is m n t))) (λ f. f) (cases_Bool (bytes_eq m n))
+not_same m n h = ⊎_elim (λ t. absurd (h ((bytes_eq-Decides m n).0 t))) (λ f. f) (cases_Bool (bytes_eq m n))
 
 pub reads_is : (o : Option (List ℕ)) (n : List ℕ) → reads_as o n ≡ true → o ≡ Some n
 reads_is None n e = absurd (false≢true e)
-reads_is (Some m) n e = ap Some (same_is m n e)
+reads_is (Some m) n e = ap Some ((bytes_eq-Decides m n).0 e)
 
 pub is_read : (o : Option (List ℕ)) (n : List ℕ) → o ≡ Some n → reads_as o n ≡ true
-is_read o n e = ap (λ x. reads_as x n) e ∙ is_same n n refl
-
-pub same_refl : (n : List ℕ) → bytes_eq n n ≡ true
-same_refl n = is_same n n refl
+is_read o n e = ap (λ x. reads_as x n) e ∙ (bytes_eq-Decides n n).1 refl

@@ -3,6 +3,7 @@ use Rattle.std.proofs.Common.{◌≡◌, ℕ, suc, ◌+◌, Bool, true, false, c
 use Rattle.std.specs.Option.{option_or}
 use Rattle.std.specs.List.{list_any}
 use Rattle.std.proofs.lemmas.Bool.{cond-true, cond-false, or_left, or_right, or_from, true≢false, false_from_ne_true}
+use Rattle.std.proofs.Math.Nat.{zero-add}
 use Rattle.model.specs.Externs.{Extern}
 use Rattle.model.specs.Lines.{Line, said}
 use Rattle.model.specs.Lists.{In, first, numbered}
@@ -48,9 +49,6 @@ some_first : (n : ℕ) (o : Option (ℕ → Reason)) (r : Option Reason) → is_
 some_first n None r t = absurd (true≢false (sym t))
 some_first n (Some f) r t = refl
 
-zero_plus : (n : ℕ) → 0 + n ≡ n
-zero_plus n = omega arith
-
 pub lines_are_read : LinesAreRead
 lines_are_read =
     record {
@@ -66,5 +64,5 @@ lines_are_read =
           ∙ cond-true (list_any wanted xs) (option_or (first why 0 ls) rest) None r.1
           ∙ ap (λ o. option_or o rest) (first_at why 0 front l back h t)
           ∙ some_first (0 + length front) (why (said l)) rest t
-          ∙ ap (λ m. numbered m (why (said l))) (zero_plus (length front));
+          ∙ ap (λ m. numbered m (why (said l))) (zero-add (length front));
     }

@@ -4,6 +4,7 @@ use Rattle.std.specs.List.{list_all}
 use Rattle.std.specs.Str.{bytes_eq}
 use Rattle.std.proofs.lemmas.Bool.{cond-true, cond-false, cond_both, cases_Bool, and_parts, and_from, or_parts, ltb-true}
 use Rattle.std.proofs.lemmas.Option.{none-some, same_Some}
+use Rattle.std.proofs.lemmas.Slice.Eq.{bytes_eq-Decides}
 use Rattle.kallsyms.specs.Address.{address, number, unsigned, limited}
 use Rattle.kallsyms.specs.Fields.{fields, field}
 use Rattle.kallsyms.specs.declared.ends.End.{End}
@@ -28,7 +29,7 @@ use Rattle.model.proofs.Grants.{judged}
 use Rattle.model.proofs.History.{Kept, kept_name, kept_typed, change, next_change, change_kept, after, runs_after, after_kept}
 use Rattle.model.proofs.Listed.{line_address, short_not, found_in}
 use Rattle.model.proofs.Loads.{Paired, loads_hold}
-use Rattle.model.proofs.Lookups.{some_is, none_is, mapped, lookup_in, lookup_map, in_map, map_in, same_is, is_same}
+use Rattle.model.proofs.Lookups.{some_is, none_is, mapped, lookup_in, lookup_map, in_map, map_in}
 use Rattle.model.proofs.Slotted.{loads_address, slots_length}
 
 -- ---- an address that a line says is below 2 ^ 64
@@ -164,7 +165,7 @@ module _
         let kq = change_kept s here p in
         let ky = after_kept later there q in
         let g = change_took c ls e here p a nonzero (λ z. other (ap address_in at_here ∙ z)) (sym (ap address_in at_there) ∙ gives) in
-        let name : p.name ≡ n = kept_name kp ∙ same_is r.name n i.1 in
+        let name : p.name ≡ n = kept_name kp ∙ (bytes_eq-Decides r.name n).0 i.1 in
         let typeless = g.1.typeless in
         let stands = (ky.stands (kept_typed kq ∙ typeless) g.1.mark).1 ∙ sym (ap address_in at_there) ∙ gives in
         let lines = (clear c ls e here g.0).lines in
@@ -208,8 +209,8 @@ call_stands st before (relocate p) later n a b f z o g = absurd (o (sym (same_ad
 -- ---- each extern has a name of its own
 pub named_row : (n : ℕ) (xs : List Extern) (r : Extern) → Distinct xs → In r xs → (i : ℕ) × (lookup (λ x. bytes_eq x.name r.name) n xs ≡ Some (i, r))
 named_row n [] r d i = absurd i
-named_row n (x ∷ xs) r d (inl q) = (n, cond-true _ _ _ (is_same x.name r.name (ap (λ z. z.name) q)) ∙ ap (λ z. Some (n, z)) q)
+named_row n (x ∷ xs) r d (inl q) = (n, cond-true _ _ _ ((bytes_eq-Decides x.name r.name).1 (ap (λ z. z.name) q)) ∙ ap (λ z. Some (n, z)) q)
 named_row n (x ∷ xs) r d (inr i) =
     let k = named_row (suc n) xs r d.1 i in
-    let t : bytes_eq x.name r.name ≡ false = ⊎_elim (λ t. absurd (d.0 r i (sym (same_is x.name r.name t)))) (λ t. t) (cases_Bool (bytes_eq x.name r.name)) in
+    let t : bytes_eq x.name r.name ≡ false = ⊎_elim (λ t. absurd (d.0 r i (sym ((bytes_eq-Decides x.name r.name).0 t)))) (λ t. t) (cases_Bool (bytes_eq x.name r.name)) in
     (k.0, cond-false _ _ _ t ∙ k.1)

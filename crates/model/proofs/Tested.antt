@@ -4,6 +4,7 @@ use Rattle.std.specs.List.{list_any, list_all}
 use Rattle.std.specs.Str.{bytes_eq}
 use Rattle.std.proofs.lemmas.Bool.{true≢false, false≢true, cases_Bool, and_parts, and_from, not-true, not_from_false}
 use Rattle.std.proofs.lemmas.Option.{none-some, same_Some}
+use Rattle.std.proofs.lemmas.Slice.Eq.{bytes_eq-Decides}
 use Rattle.model.specs.Chain.{type_at}
 use Rattle.model.specs.Collect.{section_of, entries_of}
 use Rattle.model.specs.Collected.{declares, Distinct, Collected, distinct, placeholder_fits, found_fits, externs_fit, collected_if_any}
@@ -15,14 +16,14 @@ use Rattle.model.specs.StepLaws.{CollectedIsTested}
 use Rattle.model.specs.Tables.{Tables}
 use Rattle.model.specs.declared.btf.DataSecEntry.{DataSecEntry}
 use Rattle.model.specs.declared.refusal.Reason.{Reason}
-use Rattle.model.proofs.Lookups.{all_in, in_all, none_any, any_none, is_same, not_same, reads_is, is_read}
+use Rattle.model.proofs.Lookups.{all_in, in_all, none_any, any_none, not_same, reads_is, is_read}
 
 -- ---- distinct names
 pub distinct_is : (xs : List Extern) → distinct xs ≡ true → Distinct xs
 distinct_is [] h = tt
 distinct_is (x ∷ xs) h =
     let p = and_parts (not (list_any (λ (y : Extern). bytes_eq y.name x.name) xs)) (distinct xs) h in
-    ((λ y i e. true≢false (sym (is_same y.name x.name e) ∙ any_none (λ (z : Extern). bytes_eq z.name x.name) xs (not-true _ p.0) y i)), distinct_is xs p.1)
+    ((λ y i e. true≢false (sym ((bytes_eq-Decides y.name x.name).1 e) ∙ any_none (λ (z : Extern). bytes_eq z.name x.name) xs (not-true _ p.0) y i)), distinct_is xs p.1)
 
 pub is_distinct : (xs : List Extern) → Distinct xs → distinct xs ≡ true
 is_distinct [] h = refl
