@@ -1,5 +1,5 @@
 -- Collection is granted exactly if the tables are well-formed and there is no section, or one whose entries declare externs that there is room for.
-use Rattle.std.proofs.Common.{◌≡◌, ℕ, suc, Bool, true, false, ◌&&◌, ◌||◌, ltb, leb, List, [], ◌∷◌, length, Some, None, Ok, sym, refl, ap, ◌∙◌, subst, inl, inr, ⊎_elim}
+use Rattle.std.proofs.Common.{rules, ◌≡◌, ℕ, suc, Bool, true, false, ◌&&◌, ◌||◌, ltb, leb, List, [], ◌∷◌, length, Some, None, Ok, sym, refl, ap, ◌∙◌, subst, inl, inr, ⊎_elim}
 use Rattle.std.specs.List.{list_any}
 use Rattle.std.specs.Str.{bytes_eq}
 use Rattle.std.proofs.lemmas.Bool.{true≢false, cases_Bool, cond-true, cond-false, and_from, lt-ltb, leb-true, le-leb}
@@ -35,26 +35,7 @@ module _ (t : Tables) (ss : Symbols) where
   -- ---- from the conditions to the grant
   -- an entry reads as what it declares
   reads : (n : ℕ) (e : DataSecEntry) (x : Extern) → Declares t ss e x → entry_read t ss n e ≡ Ok x
-  reads n e x d =
-      let same : fresh e.btf_type (row e) x.name d.symbol.1.is_weak d.end ≡ x =
-      λ i.
-      record {
-        name = x.name;
-        place = sym d.place i;
-        entry = sym d.entry i;
-        func = sym d.func i;
-        typed = sym d.typed i;
-        weak = sym d.weak i;
-        resolved = sym d.resolved i;
-        id = sym d.id i;
-        address = sym d.address i;
-      } in
-      cond-true (ltb e.btf_type (length t.types)) _ _ (lt-ltb _ _ d.row)
-      ∙ cond-true (is_func (row e) || is_var (row e)) _ _ (entry_declared t ss e x d).kind
-      ∙ ap (name_read t.types ss n e.btf_type (row e)) d.name
-      ∙ ap (symbol_read t.types n e.btf_type (row e) x.name) d.named
-      ∙ ap (chain_read n e.btf_type (row e) x.name d.symbol.1.is_weak) d.chain
-      ∙ ap Ok same
+  reads n e x d = search rules
 
   all_read : (n : ℕ) (es : List DataSecEntry) (xs : List Extern) → InTurn (Declares t ss) es xs → each (entry_read t ss) n es ≡ Ok xs
   all_read n [] [] d = refl
@@ -87,7 +68,7 @@ module _ (t : Tables) (ss : Symbols) where
       )
 
   collect_granted : tables_fit t ≡ true → symbols_fit ss ≡ true → (o : Object) × (collect_section t ss (section_of t) ≡ Ok o) → (o : Object) × (collect t ss ≡ Ok o)
-  collect_granted f g p = (p.0, cond-true (tables_fit t && symbols_fit ss) _ _ (and_from (tables_fit t) _ f g) ∙ p.1)
+  collect_granted f g p = search rules
 
   -- ---- from the grant to the conditions
   room_if : (b : Bool) (n : ℕ) (es : List DataSecEntry) → has_func t.types n es ≡ Ok b → room_for_func b t ≡ true
@@ -109,7 +90,7 @@ module _ (t : Tables) (ss : Symbols) where
         }
 
     externs_passed : (c : Passed t ss o) → c.rows ≡ o.externs
-    externs_passed c = sym (made_externs t c.rows c.func) ∙ ap (λ (x : Object). x.externs) c.is
+    externs_passed c = search rules
 
     -- the tables are those of the object made, with a Func or without
     made_plain : (b : Bool) (xs : List Extern) (n : ℕ) (es : List DataSecEntry) → has_func t.types n es ≡ Ok b → made b xs t ≡ o
@@ -125,7 +106,7 @@ module _ (t : Tables) (ss : Symbols) where
 
 -- ---- the whole
 not_both : (t : Tables) (d : ℕ) → section_of t ≡ Ok None → section_of t ≡ Ok (Some d) → ⊥
-not_both t d p q = none-some d (sym (ok_same _ _ (sym q ∙ p)))
+not_both t d p q = search rules
 
 pub collected_exactly_when : CollectedExactlyWhen
 collected_exactly_when =

@@ -1,5 +1,5 @@
 -- A granted collection makes a well-formed object.
-use Rattle.std.proofs.Common.{◌≡◌, ℕ, zero, suc, ◌<◌, Bool, true, false, cond, ◌&&◌, ◌||◌, ltb, leb, ◌⊎◌, List, [], ◌∷◌, ◌++◌, length, is_some, Some, None, Ok, Err, Option, Result, sym, refl, ap, ◌∙◌, subst, inl, inr, ⊎_elim, arith}
+use Rattle.std.proofs.Common.{rules, ◌≡◌, ℕ, zero, suc, ◌<◌, Bool, true, false, cond, ◌&&◌, ◌||◌, ltb, leb, ◌⊎◌, List, [], ◌∷◌, ◌++◌, length, is_some, Some, None, Ok, Err, Option, Result, sym, refl, ap, ◌∙◌, subst, inl, inr, ⊎_elim, arith}
 use Rattle.std.specs.Option.{option_or}
 use Rattle.std.specs.List.{list_any}
 use Rattle.std.specs.Str.{bytes_eq}
@@ -30,9 +30,7 @@ use Rattle.model.proofs.Grown.{Fits, fits_is, is_fit, Longer, longer_same, longe
 -- ---- what each entry came to
 module _ {X Y R : Type 0} (f : ℕ → X → Result Y R) where
   first_parts : (a : Result Y R) (b : Result (List Y) R) (ys : List Y) → with_first a b ≡ Ok ys → (y : Y) × (zs : List Y) × (a ≡ Ok y) × (b ≡ Ok zs) × (ys ≡ y ∷ zs)
-  first_parts (Err e) b ys h = absurd (err_not e ys h)
-  first_parts (Ok y) (Err e) ys h = absurd (err_not e ys h)
-  first_parts (Ok y) (Ok zs) ys h = (y, zs, refl, refl, sym (ok_same _ _ h))
+  first_parts a b ys h = search rules
 
   pub each_in : (n : ℕ) (xs : List X) (ys : List Y) → each f n xs ≡ Ok ys → (y : Y) → In y ys → (m : ℕ) × (x : X) × In x xs × (f m x ≡ Ok y)
   each_in n [] ys h y i = absurd (subst (In y) (sym (ok_same _ _ h)) i)
@@ -56,9 +54,7 @@ module _ {X Y R : Type 0} (f : ℕ → X → Result Y R) where
 -- ---- one entry
 pub chain_below : (n : ℕ) (ts : List BtfType) (id target : ℕ) → chain n ts id ≡ Ok target → id < length ts
 unfolding chain
-chain_below zero ts id target h = absurd (err_not _ _ h)
-chain_below (suc n) ts id target h =
-    ⊎_elim (λ e. ltb-true _ _ e) (λ e. absurd (err_not _ _ (sym (cond-false (ltb id (length ts)) _ _ e) ∙ h))) (cases_Bool (ltb id (length ts)))
+chain_below n ts id target h = search rules
 
 -- the row of an entry that declares
 pub entry_declared : (t : Tables) (ss : Symbols) (e : DataSecEntry) (x : Extern) → Declares t ss e x → Declared t e.btf_type
@@ -145,8 +141,7 @@ no_func ts n (x ∷ es) h e i =
 
 -- ---- names apart
 unless_parts : (b : Bool) (r : Reason) (o : Option Reason) → cond b (Some r) o ≡ None → (b ≡ false) × (o ≡ None)
-unless_parts true r o h = absurd (none-some r (sym h))
-unless_parts false r o h = (refl, h)
+unless_parts b r o h = search rules
 
 apart : (before : List Extern) (n : ℕ) (xs : List Extern) → duplicate before n xs ≡ None → (y x : Extern) → In y before → In x xs → y.name ≡ x.name → ⊥
 apart before n [] h y x j i e = i
@@ -175,13 +170,10 @@ pub record Passed (t : Tables) (ss : Symbols) (o : Object) : Type 0 where
   pub is : made func rows t ≡ o
 
 room_is : (func : Bool) (xs : List Extern) (t : Tables) → room_refusal func xs t ≡ None → (leb (length xs) MAX_EXTERNS ≡ true) × (room_for_func func t ≡ true)
-room_is func xs t h =
-    ⊎_elim (λ e. and_parts _ _ e) (λ e. absurd (none-some _ (sym h ∙ cond-false (leb (length xs) MAX_EXTERNS && room_for_func func t) _ _ e)))
-    (cases_Bool (leb (length xs) MAX_EXTERNS && room_for_func func t))
+room_is func xs t h = search rules
 
 unless_is : (e : Option Reason) (x o : Object) → granted_unless e x ≡ Ok o → (e ≡ None) × (x ≡ o)
-unless_is None x o h = (refl, ok_same _ _ h)
-unless_is (Some e) x o h = absurd (err_not _ _ h)
+unless_is e x o h = search rules
 
 module _ (t : Tables) (ss : Symbols) (o : Object) where
   module _ (d : ℕ) (found : section_of t ≡ Ok (Some d)) where
@@ -190,21 +182,13 @@ module _ (t : Tables) (ss : Symbols) (o : Object) where
 
     rows_are : (func : Bool) → has_func t.types at (entries_of t d) ≡ Ok func
         → (r : Result (List Extern) Reason) → each (entry_read t ss) at (entries_of t d) ≡ r → collect_rows t at func r ≡ Ok o → Passed t ss o
-    rows_are func f (Err e) r h = absurd (err_not _ _ h)
-    rows_are func f (Ok xs) r h =
-        let u = unless_is (option_or (duplicate [] at xs) (room_refusal func xs t)) (made func xs t) o h in
-        let p = or_else_parts (duplicate [] at xs) (room_refusal func xs t) u.0 in
-        let q = room_is func xs t p.1 in
-        record { section = d; func = func; rows = xs; found = found; has = f; read = r; apart = p.0; few = q.0; room = q.1; is = u.1 }
+    rows_are func f r2 r h = search rules
 
     entries_are : (f : Result Bool Reason) → has_func t.types at (entries_of t d) ≡ f → collect_entries t ss at (entries_of t d) f ≡ Ok o → Passed t ss o
-    entries_are (Err e) f h = absurd (err_not _ _ h)
-    entries_are (Ok func) f h = rows_are func f (each (entry_read t ss) at (entries_of t d)) refl h
+    entries_are f2 f h = search rules
 
   section_came : (r : Result (Option ℕ) Reason) → section_of t ≡ r → collect_section t ss r ≡ Ok o → ((section_of t ≡ Ok None) × (made false [] t ≡ o)) ⊎ Passed t ss o
-  section_came (Err e) s h = absurd (err_not _ _ h)
-  section_came (Ok None) s h = inl (s, ok_same _ _ h)
-  section_came (Ok (Some d)) s h = inr (entries_are d s (has_func t.types (at d s) (entries_of t d)) refl h)
+  section_came r s h = search rules
 
   pub collect_fits : collect t ss ≡ Ok o → (tables_fit t ≡ true) × (symbols_fit ss ≡ true) × (collect_section t ss (section_of t) ≡ Ok o)
   collect_fits h =
@@ -241,8 +225,7 @@ new_placeholder int t lt =
 
 module _ (t : Tables) (xs : List Extern) where
   pub made_externs : (func : Bool) → (made func xs t).externs ≡ xs
-  made_externs true = refl
-  made_externs false = refl
+  made_externs func = search rules
 
   made_longer : (func : Bool) → Longer t (made func xs t).tables
   made_longer true =

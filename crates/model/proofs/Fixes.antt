@@ -1,5 +1,5 @@
 -- A granted fixup keeps an object well-formed, and leaves the rows that it is not about.
-use Rattle.std.proofs.Common.{◌≡◌, ℕ, zero, suc, ◌+◌, ◌*◌, ◌<◌, ◌≤◌, Bool, true, false, cond, not, ◌&&◌, ◌||◌, eqb, leb, ◌⊎◌, List, [], ◌∷◌, ◌++◌, map, length, get_or, take, drop, set, is_some, Some, None, Ok, Option, sym, refl, ap, ◌∙◌, subst, inl, inr, ⊎_elim, arith}
+use Rattle.std.proofs.Common.{rules, ◌≡◌, ℕ, zero, suc, ◌+◌, ◌*◌, ◌<◌, ◌≤◌, Bool, true, false, cond, not, ◌&&◌, ◌||◌, eqb, leb, ◌⊎◌, List, [], ◌∷◌, ◌++◌, map, length, get_or, take, drop, set, is_some, Some, None, Ok, Option, sym, refl, ap, ◌∙◌, subst, inl, inr, ⊎_elim, arith}
 use lib.Seq.{take-nil, drop-nil}
 use Rattle.std.specs.List.{range_with_len}
 use Rattle.std.proofs.lemmas.List.{length-append, length-set, length-map, length-take, length-drop, get_or_append_left, get_or-set_other}
@@ -105,8 +105,7 @@ module _ {X : Type 0} (f : X → X) where
 
 -- ---- one entry
 func_by : (P : Tables → Type 0) (p : Option ℕ) (at i id : ℕ) (t : Tables) → ((q : ℕ) → p ≡ Some q → P (fix_func q at i id t)) → (p ≡ None → P t) → P (fix_func_by p at i id t)
-func_by P None at i id t f n = n refl
-func_by P (Some q) at i id t f n = f q refl
+func_by P p at i id t f n = search rules
 
 module _ (p : Option ℕ) (int at i : ℕ) (t : Tables) where
   abbrev pub id_at : ℕ
@@ -120,9 +119,7 @@ module _ (p : Option ℕ) (int at i : ℕ) (t : Tables) where
       → (p ≡ None → is_func row_at ≡ true → P t)
       → (is_func row_at ≡ false → P (fix_var int at i id_at t))
       → P (fix_entry p int at i t)
-  by_entry P f n v =
-      cond_both (is_func row_at) (fix_func_by p at i id_at t) (fix_var int at i id_at t) P
-      (λ e. func_by P p at i id_at t (λ q s. f q s e) (λ s. n s e)) v
+  by_entry P f n v = search rules
 
 params_length : (name : ℕ) (proto : BtfType) (b : Bool) (ps : List BtfParam) → length (cond b (named_params name proto ps) ps) ≡ length ps
 params_length name proto true ps = part_length (named_param name) proto.parts.start proto.parts.len ps
@@ -244,9 +241,7 @@ module _ (p : Option ℕ) (int start : ℕ) where
 
 -- ---- the section
 pub not_both : (r : BtfType) → is_data_sec r ≡ true → (is_func r || is_var r) ≡ true → ⊥
-not_both r s h =
-    let a = eqb-true (kind_number r.kind) 15 s in
-    ⊎_elim (λ e. let b = eqb-true (kind_number r.kind) 12 e in omega arith) (λ e. let b = eqb-true (kind_number r.kind) 14 e in omega arith) (or_cases _ _ h)
+not_both r s h = search rules
 
 module _ (p : Option ℕ) (d int : ℕ) (t : Tables) where
   abbrev pub begin : ℕ
@@ -273,10 +268,10 @@ module _ (p : Option ℕ) (d int : ℕ) (t : Tables) where
 
   -- another row than the section's
   pub section_other : (x : ℕ) → (x ≡ d → ⊥) → type_at (fix_section p d int t).types x ≡ type_at gone.types x
-  section_other x n = get_or-set_other gone.types d x (sized (4 * size) (type_at gone.types d)) no_row n
+  section_other x n = search rules
 
   pub declared_other : is_data_sec (type_at t.types d) ≡ true → (x : ℕ) → Declared t x → x ≡ d → ⊥
-  declared_other s x h e = not_both (type_at t.types d) s (subst (λ j. (is_func (type_at t.types j) || is_var (type_at t.types j)) ≡ true) e h.kind)
+  declared_other s x h e = search rules
 
   pub section_declared : int < length t.types → is_data_sec (type_at t.types d) ≡ true → (x : ℕ) → Declared t x → Declared (fix_section p d int t) x
   section_declared lt s x h =
@@ -310,7 +305,7 @@ module _ (o : Object) (c : Collected o) where
   done = fix_section o.placeholder c.section with_one.0 with_one.1
 
   pub done_is : fixed_tables o.placeholder o.tables ≡ done
-  done_is = ap (λ r. fix_found o.placeholder r with_one) c.found
+  done_is = search rules
 
   pub one_longer : Longer o.tables with_one.1
   one_longer = int_longer o.tables (int_of o.placeholder o.tables.types)
@@ -380,14 +375,13 @@ object_parts o h =
     (fits_is o.tables a.0, b.0, b.1)
 
 some_externs : (x : Extern) (xs ys : List Extern) → ys ≡ x ∷ xs → ys ≡ [] → ⊥
-some_externs x xs ys e n = let z : ◌≡◌ {A = ℕ} 0 1 = cc in omega arith
+some_externs x xs ys e n = search rules
 
 pub object_collected : (o : Object) (x : Extern) (xs : List Extern) → o.externs ≡ x ∷ xs → object_fits o ≡ true → Collected o
 object_collected o x xs e h = (collected_is_tested o (some_externs x xs o.externs e)).0 (object_parts o h).2
 
 room_is : (b : Bool) (r : Reason) → cond b None (Some r) ≡ None → b ≡ true
-room_is true r e = refl
-room_is false r e = absurd (none-some r (sym e))
+room_is b r e = search rules
 
 fits_for : (xs : List Extern) (o : Object) → o.externs ≡ xs → object_fits o ≡ true → fix_refusal_for xs o.placeholder o.tables ≡ None
     → object_fits (record { tables = fixed_for xs o.placeholder o.tables; externs = o.externs; placeholder = o.placeholder }) ≡ true
@@ -406,26 +400,17 @@ fixed_fits o h g = fits_for o.externs o refl h g
 
 -- ---- what is left
 pub entry_other : (p : Option ℕ) (int at i : ℕ) (t : Tables) (m : ℕ) → (m ≡ at → ⊥) → entry_at (fix_entry p int at i t).entries m ≡ entry_at t.entries m
-entry_other p int at i t m n =
-    by_entry p int at i t (λ u. entry_at u.entries m ≡ entry_at t.entries m)
-    (λ q s e. get_or-set_other t.entries at m (placed q i) (record { btf_type = 0; offset = 0; size = 0 }) n)
-    (λ s e. refl)
-    (λ e. get_or-set_other t.entries at m (placed (id_at p int at i t) i) (record { btf_type = 0; offset = 0; size = 0 }) n)
+entry_other p int at i t m n = search rules
 
 pub row_other : (p : Option ℕ) (int at i : ℕ) (t : Tables) (k : ℕ) → (k ≡ id_at p int at i t → ⊥) → type_at (fix_entry p int at i t).types k ≡ type_at t.types k
-row_other p int at i t k n =
-    by_entry p int at i t (λ u. type_at u.types k ≡ type_at t.types k)
-    (λ q s e. get_or-set_other t.types (id_at p int at i t) k (global_func (row_at p int at i t)) no_row n)
-    (λ s e. refl)
-    (λ e. get_or-set_other t.types (id_at p int at i t) k (global_var int (row_at p int at i t)) no_row n)
+row_other p int at i t k n = search rules
 
 -- a parameter without a type, or with a name
 abbrev Unnamed : BtfParam → Type 0
 Unnamed x = (x.btf_type ≡ 0) ⊎ (x.name_offset ≡ 0 → ⊥)
 
 not_named : (name : ℕ) (x : BtfParam) → Unnamed x → named_param name x ≡ x
-not_named name x (inl e) = cond-false (not (eqb x.btf_type 0) && eqb x.name_offset 0) _ _ (and_left (not (eqb x.btf_type 0)) _ (ap not (eq-eqb _ 0 e)))
-not_named name x (inr n) = cond-false (not (eqb x.btf_type 0) && eqb x.name_offset 0) _ _ (and_right (not (eqb x.btf_type 0)) _ (ne_eqb _ 0 n))
+not_named name x h = search rules
 
 params_at : (name : ℕ) (proto : BtfType) (b : Bool) (ps : List BtfParam) (m : ℕ)
     → Unnamed (param_at ps m) ⊎ (b ≡ true → Outside proto.parts m) → param_at (cond b (named_params name proto ps) ps) m ≡ param_at ps m
@@ -451,14 +436,7 @@ param_same p int at i t m h =
 not_of : (ts us : List BtfType) (id m : ℕ) → Shape (type_at ts id) (type_at us id)
     → (is_func (type_at ts id) ≡ true → ((type_at us id).size_or_type ≡ (type_at ts id).size_or_type) × Shape (type_at ts (type_at ts id).size_or_type) (type_at us (type_at ts id).size_or_type))
     → NotOf ts id m → NotOf us id m
-not_of ts us id m s f h a b =
-    let k = sym (ap (λ k. eqb (kind_number k) 12) s.kind) ∙ a in
-    let g = (f k).1 in
-    let e = (f k).0 in
-    let row = ap (type_at us) e in
-    subst (λ (r : BtfType). Outside r.parts m) (sym row)
-    (subst (λ (s : Span). Outside s m) (sym g.parts)
-    (h k (sym (ap (λ k. eqb (kind_number k) 13) g.kind) ∙ ap is_func_proto (sym row) ∙ b)))
+not_of ts us id m s f h a b = search rules
 
 module _ (p : Option ℕ) (int start : ℕ) (t : Tables) (len : ℕ) where
   -- the entries that i steps leave
@@ -466,9 +444,7 @@ module _ (p : Option ℕ) (int start : ℕ) (t : Tables) (len : ℕ) where
   Untouched i u = (m : ℕ) → (m < start) ⊎ (start + i ≤ m) → entry_at u.entries m ≡ entry_at t.entries m
 
   pub outside_on : (i : ℕ) (u : Tables) → Untouched i u → Untouched (i + 1) (fix_entry p int (start + i) i u)
-  outside_on i u h m s =
-      let n : m ≡ start + i → ⊥ = λ e. ⊎_elim (λ (l : m < start). omega arith) (λ (l : start + (i + 1) ≤ m). omega arith) s in
-      entry_other p int (start + i) i u m n ∙ h m (⊎_elim (λ l. inl l) (λ (l : start + (i + 1) ≤ m). inr (let g : start + i ≤ m = omega arith in g)) s)
+  outside_on i u h m s = search rules
 
   pub entries_outside : Untouched len (after p int start t len)
   entries_outside = entries_keep p int start t len Untouched (λ m s. refl) (λ i u l h. outside_on i u h)
@@ -583,19 +559,7 @@ module _ (o : Object) (c : Collected o) (f : Fits o.tables) where
       }
 
 pub same_leaves : (o : Object) (d : ℕ) → Leaves o o d
-same_leaves o d =
-    record {
-      externs = refl;
-      placeholder = refl;
-      rows = λ k a b e. refl;
-      kinds = λ k a. refl;
-      names = λ k a. refl;
-      parts = λ k a. refl;
-      entries = λ k a. refl;
-      params = λ k a. refl;
-      other_params = λ k a. refl;
-      strings = λ k a. refl;
-    }
+same_leaves o d = search rules
 
 leaves_for : (xs : List Extern) (o : Object) (d : ℕ) → o.externs ≡ xs → object_fits o ≡ true → section_of o.tables ≡ Ok (Some d)
     → Leaves o (record { tables = fixed_for xs o.placeholder o.tables; externs = o.externs; placeholder = o.placeholder }) d

@@ -1,5 +1,5 @@
 -- Spans that follow each other.
-use Rattle.std.proofs.Common.{◌≡◌, ℕ, ◌+◌, ◌≤◌, true, eqb, ◌↔◌, List, [], ◌∷◌, ◌++◌, sym, refl, ap, ◌∙◌, subst, inl, inr, arith}
+use Rattle.std.proofs.Common.{rules, ◌≡◌, ℕ, ◌+◌, ◌≤◌, true, eqb, ◌↔◌, List, [], ◌∷◌, ◌++◌, sym, refl, ap, ◌∙◌, subst, inl, inr, arith}
 use Rattle.std.proofs.lemmas.Bool.{and_parts, and_from, leb-true, le-leb, eqb-true, eq-eqb}
 use Rattle.model.specs.Lists.{In}
 use Rattle.model.specs.Spans.{end_of, follow}
@@ -9,7 +9,7 @@ use Rattle.model.specs.declared.rows.Span.{Span}
 module _ (n : ℕ) where
   -- the first one, and the others
   follow_parts : (at : ℕ) (s : Span) (ss : List Span) → follow at (s ∷ ss) n ≡ true → (s.start ≡ at) × (follow (at + s.len) ss n ≡ true)
-  follow_parts at s ss h = let p = and_parts (eqb s.start at) _ h in (eqb-true s.start at p.0, p.1)
+  follow_parts at s ss h = search rules
 
   follow_ends : (at : ℕ) (ss : List Span) → follow at ss n ≡ true → at + total ss ≤ n
   follow_ends at [] h = let l = leb-true at n h in omega arith

@@ -1,5 +1,5 @@
 -- What a granted call met.
-use Rattle.std.proofs.Common.{◌≡◌, ℕ, true, List, map, is_ok, Some, None, Ok, Err, Option, Result, refl, ap, ◌∙◌, ⊎_elim}
+use Rattle.std.proofs.Common.{rules, ◌≡◌, ℕ, true, List, map, is_ok, Some, None, Ok, Err, Option, Result, refl, ap, ◌∙◌, ⊎_elim}
 use Rattle.std.specs.Option.{option_or}
 use Rattle.std.specs.List.{list_any}
 use Rattle.std.proofs.lemmas.Bool.{cond-true, cond-false, cond_both, false≢true, cases_Bool, and_left}
@@ -19,17 +19,14 @@ use Rattle.model.specs.declared.rows.Slot.{Slot}
 use Rattle.model.proofs.Lookups.{or_else_parts, or_else_from, test_parts, when_parts, first_none, none_first, any_in}
 
 granted_none : (c : Call) (o : Option Reason) → is_ok (answered c o) ≡ true → o ≡ None
-granted_none c None e = refl
-granted_none c (Some x) e = absurd (false≢true e)
+granted_none c o e = search rules
 
 -- a call is granted exactly if its tables are well-formed and it meets no refusal
 pub granted_parts : (s : Step) (st : State) → granted s st ≡ true → (fits s st ≡ true) × (reason s st ≡ None)
 granted_parts s st g = test_parts (fits s st) (reason s st) InvalidTable (granted_none (call_of s) _ g)
 
 pub granted_from : (s : Step) (st : State) → fits s st ≡ true → reason s st ≡ None → granted s st ≡ true
-granted_from s st f r =
-    let h : refusal s st ≡ None = cond-true (fits s st) _ _ f ∙ r in
-    ap (λ o. is_ok (answered (call_of s) o)) h
+granted_from s st f r = search rules
 
 -- ---- a granted resolution, by the externs
 pub record Clear (c : Option Catalogue) (ls : List (List ℕ)) (e : End) (xs : List Extern) : Type 0 where
@@ -46,15 +43,10 @@ clear_granted c ls e st f k = granted_from (resolve c ls e) st f (or_else_from _
 
 -- ---- the parts of a reading with nothing to refuse
 pub lines_parts : (xs : List Extern) (ls : List Line) (e : End) → lines_refusal xs ls e ≡ None → list_any wanted xs ≡ true → (first (line_refusal xs ls) 0 ls ≡ None) × (end_refusal e ≡ None) × (first (missing_refusal ls) 0 xs ≡ None)
-lines_parts xs ls e h t =
-    let p = or_else_parts (first (line_refusal xs ls) 0 ls) (option_or (end_refusal e) (first (missing_refusal ls) 0 xs)) (when_parts (list_any wanted xs) _ h t) in
-    let q = or_else_parts (end_refusal e) (first (missing_refusal ls) 0 xs) p.1 in
-    (p.0, q.0, q.1)
+lines_parts xs ls e h t = search rules
 
 pub lines_from : (xs : List Extern) (ls : List Line) (e : End) → (list_any wanted xs ≡ true → (first (line_refusal xs ls) 0 ls ≡ None) × (end_refusal e ≡ None) × (first (missing_refusal ls) 0 xs ≡ None)) → lines_refusal xs ls e ≡ None
-lines_from xs ls e h =
-    cond_both (list_any wanted xs) (option_or (first (line_refusal xs ls) 0 ls) (option_or (end_refusal e) (first (missing_refusal ls) 0 xs))) None (λ o. o ≡ None)
-    (λ t. let p = h t in or_else_from _ _ p.0 (or_else_from _ _ p.1 p.2)) (λ _. refl)
+lines_from xs ls e h = search rules
 
 pub none_missing : (xs : List Extern) (ls : List Line) (e : End) → lines_refusal xs ls e ≡ None → (x : Extern) → In x xs → missing_refusal ls x ≡ None
 none_missing xs ls e h x i =

@@ -1,5 +1,5 @@
 -- When a resolution is granted.
-use Rattle.std.proofs.Common.{◌≡◌, ℕ, Bool, true, false, not, ◌&&◌, ◌||◌, eqb, ◌↔◌, List, map, is_some, Some, None, Option, sym, refl, ap, ◌∙◌, subst, inl, inr, ⊎_elim}
+use Rattle.std.proofs.Common.{rules, ◌≡◌, ℕ, Bool, true, false, not, ◌&&◌, ◌||◌, eqb, ◌↔◌, List, map, is_some, Some, None, Option, sym, refl, ap, ◌∙◌, subst, inl, inr, ⊎_elim}
 use Rattle.std.specs.List.{list_any}
 use Rattle.std.proofs.lemmas.Bool.{cond-true, cond-false, cond_both, both_ways, false≢true, cases_Bool, eqb-true, eqb-false, eq-eqb, and_parts, and_from, or_left, or_right, or_cases, not-true}
 use Rattle.std.specs.Str.{bytes_eq}
@@ -24,22 +24,10 @@ use Rattle.model.proofs.Lookups.{some_is, first_none, none_first, any_in, any_so
 
 -- ---- one line
 refused_parts : (x : Extern) (i a : ℕ) (o : Option ℕ) → address_refusal x i a o ≡ None → (is_some o ≡ true) × ((b : ℕ) → o ≡ Some b → (b ≡ 0 → ⊥) → a ≡ b)
-refused_parts x i a None h = absurd (none-some _ (sym h))
-refused_parts x i a (Some d) h = (
-  refl,
-  λ b q nz.
-      let s : d ≡ b = cc in
-      ⊎_elim
-      (λ t. ⊎_elim (λ z. absurd (nz (sym s ∙ eqb-true d 0 z))) (λ z. eqb-true a d z ∙ s) (or_cases _ _ t))
-      (λ t. absurd (none-some _ (sym h ∙ cond-false (eqb d 0 || eqb a d) None (Some _) t)))
-      (cases_Bool (eqb d 0 || eqb a d)),
-)
+refused_parts x i a o h = search rules
 
 refused_from : (x : Extern) (i a : ℕ) (o : Option ℕ) → is_some o ≡ true → ((b : ℕ) → o ≡ Some b → (b ≡ 0 → ⊥) → a ≡ b) → address_refusal x i a o ≡ None
-refused_from x i a None t h = absurd (false≢true t)
-refused_from x i a (Some d) t h =
-    cond-true _ _ _
-    (⊎_elim (λ z. or_left _ _ z) (λ z. or_right (eqb d 0) _ (eq-eqb a d (h d refl (eqb-false d 0 z)))) (cases_Bool (eqb d 0)))
+refused_from x i a o t h = search rules
 
 -- what a reading with nothing to refuse says of the lines of a wanted row
 pub judged :
@@ -58,11 +46,10 @@ judged rows ls e r o h i w j =
     (some_is (lookup has 0 rows))
 
 pub not_missing : (ls : List Line) (r : Extern) → missing_refusal ls r ≡ None → wanted r ≡ true → r.weak ≡ false → first_address r.name ls ≡ 0 → ⊥
-not_missing ls r h w s z = none-some _ (sym (when_parts ((wanted r && not r.weak) && eqb (first_address r.name ls) 0) (Some _) h (and_from _ _ (and_from _ _ w (ap not s)) (eq-eqb _ 0 z))))
+not_missing ls r h w s z = search rules
 
 end_clean : (e : End) → end_refusal e ≡ None → e ≡ Clean
-end_clean Clean h = refl
-end_clean (Broken f) h = absurd (none-some _ (sym h))
+end_clean e h = search rules
 
 -- ---- the two conditions, of rows that calls have changed and that W says are wanted
 module _
@@ -79,7 +66,7 @@ module _
     ls = map said raw
 
     named : (r : Extern) (o : Option ℕ) → In (line r.name o) ls → In (line (f r).name o) ls
-    named r o = subst (λ n. In (line n o) ls) (sym (kept_name (kept r)))
+    named r o = search rules
 
     judged_row : lines_refusal (map f rows) ls e ≡ None → (r : Extern) (o : Option ℕ) → In r rows → W r → In (line r.name o) ls → (is_some o ≡ true) × ((b : ℕ) → o ≡ Some b → (b ≡ 0 → ⊥) → first_address (f r).name ls ≡ b)
     judged_row h r o i w j = judged (map f rows) ls e (f r) o h (in_map f rows r i) (from r i w) (named r o j)
@@ -149,34 +136,26 @@ module _
 
 -- ---- typed rows
 typed_marked : (c : Option Catalogue) (b : Bool) (i a : Option ℕ) (r : Extern) → typed_refusal c (marked b i a r) ≡ typed_refusal c r
-typed_marked None b i a r = refl
-typed_marked (Some c) b i a r = refl
+typed_marked c b i a r = search rules
 
 typed_kept : (c : Option Catalogue) {r q : Extern} → Kept r q → typed_refusal c q ≡ typed_refusal c r
 typed_kept c {r} {q} k = ap (typed_refusal c) k.row ∙ typed_marked c q.resolved q.id q.address r
 
 unfit_not : (x : Extern) → unfit_row x ≡ None → ⊥
-unfit_not x = cond_both x.func (Some _) (Some _) (λ o. o ≡ None → ⊥) (λ _ e. none-some _ (sym e)) (λ _ e. none-some _ (sym e))
+unfit_not x = search rules
 
 missing_not : (x : Extern) → missing_row x ≡ None → ⊥
-missing_not x = cond_both x.func (Some _) (Some _) (λ o. o ≡ None → ⊥) (λ _ e. none-some _ (sym e)) (λ _ e. none-some _ (sym e))
+missing_not x = search rules
 
 -- an extern that is not refused finds a row that fits
 pub row_fits : (x : Extern) (o : Option (ℕ × CatalogueRow)) → row_refusal x o ≡ None → (k : ℕ × CatalogueRow) × (o ≡ Some k) × (k.1.fits ≡ true)
-row_fits x None h = absurd (missing_not x h)
-row_fits x (Some k) h =
-    ⊎_elim
-    (λ t. (k, refl, t))
-    (λ t. absurd (unfit_not x (sym (cond-false k.1.fits None (unfit_row x) t) ∙ h)))
-    (cases_Bool k.1.fits)
+row_fits x o h = search rules
 
 refusal_finds : (c : Option Catalogue) (x : Extern) → catalogue_refusal c x ≡ None → FindsRow c x
-refusal_finds None x h = absurd (none-some _ (sym h))
-refusal_finds (Some c) x h = row_fits x (candidate c x) h
+refusal_finds c x h = search rules
 
 finds_refusal : (c : Option Catalogue) (x : Extern) → FindsRow c x → catalogue_refusal c x ≡ None
-finds_refusal None x h = absurd h
-finds_refusal (Some c) x (k, p, t) = ap (row_refusal x) p ∙ cond-true k.1.fits None (unfit_row x) t
+finds_refusal c x h = search rules
 
 -- ---- the law, of externs that no call has touched
 pub after_calls :

@@ -1,5 +1,5 @@
 -- Tables that grow, or whose rows are rewritten and keep their shape, stay well-formed.
-use Rattle.std.proofs.Common.{◌≡◌, ℕ, zero, suc, ◌+◌, ◌<◌, ◌≤◌, Bool, true, false, cond, ◌&&◌, ◌||◌, eqb, ltb, leb, ◌⊎◌, List, [], ◌∷◌, ◌++◌, length, drop, set, is_some, Some, None, Ok, codes, Option, Result, sym, refl, ap, ◌∙◌, subst, inl, inr, ⊎_elim, arith}
+use Rattle.std.proofs.Common.{rules, ◌≡◌, ℕ, zero, suc, ◌+◌, ◌<◌, ◌≤◌, Bool, true, false, cond, ◌&&◌, ◌||◌, eqb, ltb, leb, ◌⊎◌, List, [], ◌∷◌, ◌++◌, length, drop, set, is_some, Some, None, Ok, codes, Option, Result, sym, refl, ap, ◌∙◌, subst, inl, inr, ⊎_elim, arith}
 use Rattle.std.specs.List.{list_all}
 use Rattle.std.specs.Option.{option_map}
 use Rattle.std.specs.Str.{bytes_eq}
@@ -26,10 +26,10 @@ pub record Shape (t u : BtfType) : Type 0 where
   pub parts : u.parts ≡ t.parts
 
 pub shape_same : (t : BtfType) → Shape t t
-shape_same t = record { kind = refl; name = refl; parts = refl }
+shape_same t = search rules
 
 pub shape_on : (t u v : BtfType) → Shape t u → Shape u v → Shape t v
-shape_on t u v a b = record { kind = b.kind ∙ a.kind; name = b.name ∙ a.name; parts = b.parts ∙ a.parts }
+shape_on t u v a b = search rules
 
 abbrev pub Alike : List BtfType → List BtfType → Type 0
 Alike [] [] = Unit {0}
@@ -69,16 +69,13 @@ alike_set (t ∷ ts) zero u s = (s, alike_same ts)
 alike_set (t ∷ ts) (suc i) u s = (shape_same t, alike_set ts i u s)
 
 kind_same : (k : ℕ) (t u : BtfType) → Shape t u → of_kind k u ≡ of_kind k t
-kind_same k t u s = ap (λ x. eqb (kind_number x) k) s.kind
+kind_same k t u s = search rules
 
 pub alike_void : (ts us : List BtfType) → Alike ts us → void_first us ≡ void_first ts
-alike_void [] [] a = refl
-alike_void [] (u ∷ us) a = absurd a
-alike_void (t ∷ ts) [] a = absurd a
-alike_void (t ∷ ts) (u ∷ us) a = kind_same 0 t u a.0
+alike_void ts us a = search rules
 
 parts_same : (t u : BtfType) → Shape t u → parts_fit u ≡ parts_fit t
-parts_same t u s = λ i. (kind_same 15 t u s i || kind_same 13 t u s i) || eqb (s.parts i).len 0
+parts_same t u s = search rules
 
 pub alike_parts : (ts us : List BtfType) → Alike ts us → list_all parts_fit us ≡ list_all parts_fit ts
 alike_parts [] [] a = refl
@@ -109,8 +106,7 @@ spans_push k [] u o = cond-false (of_kind k u) _ _ o
 spans_push k (t ∷ ts) u o = let rest = spans_push k ts u o in λ i. cond (of_kind k t) (t.parts ∷ rest i) (rest i)
 
 pub void_push : (ts us : List BtfType) → void_first ts ≡ true → void_first (ts ++ us) ≡ true
-void_push [] us h = absurd (false≢true h)
-void_push (t ∷ ts) us h = h
+void_push ts us h = search rules
 
 pub parts_push : (ts : List BtfType) (u : BtfType) → list_all parts_fit ts ≡ true → parts_fit u ≡ true → list_all parts_fit (ts ++ u ∷ []) ≡ true
 parts_push [] u h p = and_from (parts_fit u) true p refl
@@ -118,8 +114,7 @@ parts_push (t ∷ ts) u h p = let q = and_parts (parts_fit t) (list_all parts_fi
 
 -- ---- names in longer strings
 mapped_some : (f : List ℕ → List ℕ) (o : Option (List ℕ)) → is_some (option_map f o) ≡ is_some o
-mapped_some f None = refl
-mapped_some f (Some x) = refl
+mapped_some f o = search rules
 
 zero_stays : (xs more : List ℕ) → is_some (to_zero xs) ≡ true → to_zero (xs ++ more) ≡ to_zero xs
 zero_stays [] more h = absurd (false≢true h)
@@ -144,11 +139,7 @@ module _ (strings more : List ℕ) (us : List BtfType) where
   here_grows : (x y : Option (List ℕ)) (i d : ℕ) (a b : Result (Option ℕ) Reason)
       → ((n : List ℕ) → x ≡ Some n → y ≡ Some n) → (a ≡ Ok (Some d) → b ≡ Ok (Some d))
       → section_here x i a ≡ Ok (Some d) → section_here y i b ≡ Ok (Some d)
-  here_grows None y i d a b f g h = absurd (err_not _ _ h)
-  here_grows (Some n) y i d a b f g h =
-      ap (λ z. section_here z i b) (f n refl)
-      ∙ ⊎_elim (λ e. cond-true _ _ _ e ∙ sym (cond-true (bytes_eq n (codes ".ksyms")) (Ok (Some i)) a e) ∙ h)
-      (λ e. cond-false _ _ _ e ∙ g (sym (cond-false (bytes_eq n (codes ".ksyms")) (Ok (Some i)) a e) ∙ h)) (cases_Bool (bytes_eq n (codes ".ksyms")))
+  here_grows x y i d a b f g h = search rules
 
   pub section_grows : (i d : ℕ) (ts : List BtfType) → section_from strings i ts ≡ Ok (Some d) → section_from (strings ++ more) i (ts ++ us) ≡ Ok (Some d)
   section_grows i d [] h = absurd (none-some d (ok_same _ _ h))
@@ -160,10 +151,7 @@ module _ (strings more : List ℕ) (us : List BtfType) where
 
 -- the section is a DataSec
 here_at : (x : Option (List ℕ)) (i d : ℕ) (a : Result (Option ℕ) Reason) → section_here x i a ≡ Ok (Some d) → (i ≡ d) ⊎ (a ≡ Ok (Some d))
-here_at None i d a h = absurd (err_not _ _ h)
-here_at (Some n) i d a h =
-    ⊎_elim (λ e. inl (same_Some i d (ok_same _ _ (sym (cond-true (bytes_eq n (codes ".ksyms")) (Ok (Some i)) a e) ∙ h))))
-    (λ e. inr (sym (cond-false (bytes_eq n (codes ".ksyms")) (Ok (Some i)) a e) ∙ h)) (cases_Bool (bytes_eq n (codes ".ksyms")))
+here_at x i d a h = search rules
 
 section_at : (strings : List ℕ) (i d : ℕ) (ts : List BtfType) → section_from strings i ts ≡ Ok (Some d)
     → (k : ℕ) × (i + k ≡ d) × (k < length ts) × (is_data_sec (type_at ts k) ≡ true)
@@ -221,13 +209,7 @@ fits_is t h =
     }
 
 pub is_fit : (t : Tables) → Fits t → tables_fit t ≡ true
-is_fit t f =
-    and_from (few t) _
-    (and_from (leb (length t.types) MAX_ROWS) _ (le-leb _ _ f.types)
-    (and_from (leb (length t.entries) MAX_ROWS) _ (le-leb _ _ f.entries)
-    (and_from (leb (length t.params) MAX_ROWS) _ (le-leb _ _ f.params) (le-leb _ _ f.strings))))
-    (and_from (void_first t.types) _ f.void
-    (and_from (list_all parts_fit t.types) _ f.parts (and_from (follow 0 (parts_of 15 t.types) (length t.entries)) _ f.sections f.protos)))
+is_fit t f = search rules
 
 -- rows rewritten in their shape, entries and parameters as many as before, and the strings
 pub record Rewritten (t u : Tables) : Type 0 where
@@ -310,7 +292,7 @@ pub longer_same : (t : Tables) → Longer t t
 longer_same t = record { rows = []; bytes = []; types = sym (append-nil t.types); strings = sym (append-nil t.strings); entries = refl; params = refl }
 
 pub longer_added : (row : ℕ → BtfType) (name : List ℕ) (t : Tables) → Longer t (added row name t)
-longer_added row name t = record { rows = row (length t.strings) ∷ []; bytes = name; types = refl; strings = refl; entries = refl; params = refl }
+longer_added row name t = search rules
 
 pub longer_on : (t u v : Tables) → Longer t u → Longer u v → Longer t v
 longer_on t u v a b =
@@ -347,17 +329,10 @@ pub record Declared (t : Tables) (id : ℕ) : Type 0 where
   pub type : (type_at t.types id).size_or_type < length t.types
 
 pub declared_is : (t : Tables) (id : ℕ) → declares t id ≡ true → Declared t id
-declared_is t id h =
-    let a = and_parts (ltb id (length t.types)) _ h in
-    let b = and_parts (is_func (type_at t.types id) || is_var (type_at t.types id)) _ a.1 in
-    let c = and_parts (is_some (name_at t.strings (type_at t.types id).name_offset)) _ b.1 in
-    record { below = ltb-true _ _ a.0; kind = b.0; name = c.0; type = ltb-true _ _ c.1 }
+declared_is t id h = search rules
 
 pub is_declared : (t : Tables) (id : ℕ) → Declared t id → declares t id ≡ true
-is_declared t id d =
-    and_from (ltb id (length t.types)) _ (lt-ltb _ _ d.below)
-    (and_from (is_func (type_at t.types id) || is_var (type_at t.types id)) _ d.kind
-    (and_from (is_some (name_at t.strings (type_at t.types id).name_offset)) _ d.name (lt-ltb _ _ d.type)))
+is_declared t id d = search rules
 
 pub longer_declared : (t u : Tables) → Longer t u → (id : ℕ) → Declared t id → Declared u id
 longer_declared t u l id d =
@@ -392,16 +367,13 @@ first_below ts i e =
     let s = r.2 in omega (arith, b)
 
 pub room_parts : (rows bytes : ℕ) (t : Tables) → room_for rows bytes t ≡ true → (length t.types + rows ≤ MAX_ROWS) × (length t.strings + bytes ≤ MAX_NAMES)
-room_parts rows bytes t h =
-    let a = and_parts (leb (length t.types + rows) MAX_ROWS && leb (length t.strings + bytes) MAX_NAMES) _ h in
-    let b = and_parts (leb (length t.types + rows) MAX_ROWS) _ a.0 in
-    (leb-true _ _ b.0, leb-true _ _ b.1)
+room_parts rows bytes t h = search rules
 
 plain_int : (name : ℕ) → Plain (int_row name)
-plain_int name = record { section = refl; proto = refl; parts = refl }
+plain_int name = search rules
 
 plain_placeholder : (int name : ℕ) → Plain (placeholder_row int name)
-plain_placeholder int name = record { section = refl; proto = refl; parts = refl }
+plain_placeholder int name = search rules
 
 module _ (t : Tables) where
   pub int_longer : (o : Option ℕ) → Longer t (with_int o t).1

@@ -1,5 +1,5 @@
 -- What a list of calls makes of one extern.
-use Rattle.std.proofs.Common.{◌≡◌, ℕ, Bool, true, false, cond, not, ◌||◌, eqb, List, [], ◌∷◌, map, is_some, Some, None, Option, sym, refl, ap, ◌∙◌, subst, inl, inr, ⊎_elim}
+use Rattle.std.proofs.Common.{rules, ◌≡◌, ℕ, Bool, true, false, cond, not, ◌||◌, eqb, List, [], ◌∷◌, map, is_some, Some, None, Option, sym, refl, ap, ◌∙◌, subst, inl, inr, ⊎_elim}
 use Rattle.std.proofs.lemmas.List.{map-id}
 use Rattle.std.proofs.lemmas.Bool.{cond-true, cond-false, cond_both, both_ways, true≢false, cases_Bool, eqb-true, eqb-false, and_parts, and_from, or_parts, or_left, or_cases, not-true}
 use Rattle.std.proofs.lemmas.Simd.{map-map}
@@ -65,36 +65,25 @@ module _ {r q : Extern} (k : Kept r q) where
   kept_weak = ap (λ x. x.weak) k.row
 
 pub kept_same : (r : Extern) → Kept r r
-kept_same r = record { row = refl; id = λ _. refl; stands = λ _ t. (t, refl) }
+kept_same r = search rules
 
 pub kept_both : (r q s : Extern) → Kept r q → Kept q s → Kept r s
-kept_both r q s k l =
-    record {
-      row = l.row ∙ ap (marked s.resolved s.id s.address) k.row;
-      id = λ n. l.id (kept_typed k ∙ n) ∙ k.id n;
-      stands = λ n t. let a = k.stands n t in let b = l.stands (kept_typed k ∙ n) a.0 in (b.0, b.1 ∙ a.1);
-    }
+kept_both r q s k l = search rules
 
 typed_not : {X : Type 0} (o : Option X) → is_some o ≡ true → o ≡ None → ⊥
-typed_not o t e = true≢false (sym t ∙ ap is_some e)
+typed_not o t e = search rules
 
 id_kept : (o : Option ℕ) (r : Extern) → is_some r.typed ≡ true → Kept r (given_id o r)
-id_kept None r t = kept_same r
-id_kept (Some i) r t = record { row = refl; id = λ n. absurd (typed_not _ t n); stands = λ n _. absurd (typed_not _ t n) }
+id_kept o r t = search rules
 
 settled_kept : (c : Option Catalogue) (ls : List Line) (r : Extern) → Kept r (settled c ls r)
-settled_kept c ls r =
-    cond_both (is_some r.typed) _ _ (λ q. Kept r q) (λ t. id_kept (fitting_id c r) r t)
-    (λ _. cond_both (r.resolved || eqb (first_address r.name ls) 0) r (resolved_to r.id (Some (first_address r.name ls)) r) (λ q. Kept r q) (λ _. kept_same r)
-    (λ t. record { row = refl; id = λ _. refl; stands = λ _ y. absurd (both_ways _ t (or_left _ _ y)) }))
+settled_kept c ls r = search rules
 
 zeroed_kept : (r : Extern) → Kept r (zeroed r)
-zeroed_kept r =
-    cond_both (r.resolved || not r.weak) r (addressed 0 r) (λ q. Kept r q) (λ _. kept_same r)
-    (λ t. record { row = refl; id = λ _. refl; stands = λ _ y. absurd (both_ways _ t (or_left _ _ y)) })
+zeroed_kept r = search rules
 
 pub given_kept : (c : Option Catalogue) (ls : List Line) (r : Extern) → Kept r (given c ls r)
-given_kept c ls r = kept_both _ _ _ (settled_kept c ls r) (zeroed_kept (settled c ls r))
+given_kept c ls r = search rules
 
 pub change_kept : (s : Step) (st : State) (r : Extern) → Kept r (change s st r)
 unfolding change
@@ -121,13 +110,13 @@ after_kept (s ∷ ss) st r = kept_both _ _ _ (change_kept s st r) (after_kept ss
 -- ---- a typeless row is resolved by the addresses among the lines of granted resolutions
 module _ (c : Option Catalogue) (ls : List Line) (r : Extern) (typeless : r.typed ≡ None) where
   settled_is : settled c ls r ≡ given_address (first_address r.name ls) r
-  settled_is = cond-false _ _ _ (ap is_some typeless)
+  settled_is = search rules
 
   zeroed_mark : (q : Extern) → (zeroed q).resolved ≡ q.resolved
-  zeroed_mark q = cond_both (q.resolved || not q.weak) q (addressed 0 q) (λ (x : Extern). x.resolved ≡ q.resolved) (λ _. refl) (λ _. refl)
+  zeroed_mark q = search rules
 
   given_mark : (given c ls r).resolved ≡ (given_address (first_address r.name ls) r).resolved
-  given_mark = zeroed_mark (settled c ls r) ∙ ap (λ x. x.resolved) settled_is
+  given_mark = search rules
 
   pub mark_named : r.resolved ≡ false → (given c ls r).resolved ≡ true → (a : ℕ) × Tells ls r.name a
   mark_named u m =

@@ -1,5 +1,5 @@
 -- The first nonzero address of a name among lines.
-use Rattle.std.proofs.Common.{◌≡◌, ℕ, not, ◌&&◌, eqb, List, [], ◌∷◌, Some, None, Option, unwrap_or, sym, refl, ap, ◌∙◌, inl, inr, ⊎_elim, arith}
+use Rattle.std.proofs.Common.{rules, ◌≡◌, ℕ, not, ◌&&◌, eqb, List, [], ◌∷◌, Some, None, Option, unwrap_or, sym, refl, ap, ◌∙◌, inl, inr, ⊎_elim, arith}
 use Rattle.std.proofs.lemmas.Bool.{cond-true, cond-false, cond_both, both_ways, cases_Bool, eqb-false, ne_eqb, and_parts, and_from, not-true}
 use Rattle.std.specs.Str.{bytes_eq}
 use Rattle.std.proofs.lemmas.Slice.Eq.{bytes_eq-Decides}
@@ -12,8 +12,7 @@ abbrev pub Tells : List Line → List ℕ → ℕ → Type 0
 Tells ls n a = In (line n (Some a)) ls × (a ≡ 0 → ⊥)
 
 value_some : (o : Option ℕ) → (unwrap_or o 0 ≡ 0 → ⊥) → o ≡ Some (unwrap_or o 0)
-value_some None h = absurd (h refl)
-value_some (Some a) h = refl
+value_some o h = search rules
 
 line_is : (m n : List ℕ) (o p : Option ℕ) → m ≡ n → o ≡ p → line m o ≡ line n p
 line_is m n o p e f = λ i. line (e i) (f i)
@@ -25,7 +24,7 @@ pub line_address : (m n : List ℕ) (o p : Option ℕ) → line m o ≡ line n p
 line_address m n o p e = cc
 
 pub short_not : (n : List ℕ) (o : Option ℕ) → short ≡ line n o → ⊥
-short_not n o e = let z : ◌≡◌ {A = ℕ} 0 1 = cc in omega arith
+short_not n o e = search rules
 
 pub found_in : (n : List ℕ) (ls : List Line) → (first_address n ls ≡ 0 → ⊥) → In (line n (Some (first_address n ls))) ls
 found_in n [] h = absurd (h refl)

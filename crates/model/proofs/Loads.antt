@@ -1,5 +1,5 @@
 -- What relocation makes of the slots, and of a load's two slots.
-use Rattle.std.proofs.Common.{◌≡◌, ℕ, suc, ◌+◌, ◌<◌, Bool, true, false, cond, eqb, ◌⊎◌, List, [], ◌∷◌, ◌++◌, length, set, ℤ, pos, is_some, Some, None, Ok, Err, Option, Result, sym, refl, ap, ◌∙◌, subst, inl, inr, ⊎_elim, arith, w16, w32, SFits}
+use Rattle.std.proofs.Common.{rules, ◌≡◌, ℕ, suc, ◌+◌, ◌<◌, Bool, true, false, cond, eqb, ◌⊎◌, List, [], ◌∷◌, ◌++◌, length, set, ℤ, pos, is_some, Some, None, Ok, Err, Option, Result, sym, refl, ap, ◌∙◌, subst, inl, inr, ⊎_elim, arith, w16, w32, SFits}
 use borrow.Author.Gap.{read_sfits}
 use Rattle.std.proofs.lemmas.List.{length-set, get_or-set_same, get_or-set_other, set_past}
 use Rattle.std.proofs.lemmas.Bool.{cond-true, cond-false, cond_both, cases_Bool, cases_eq, cases_lt, eqb-true, ltb-true}
@@ -56,11 +56,10 @@ record Changed (T : ℕ → Type 0) (old new : List Slot) : Type 0 where
   fit : EachFits old → EachFits new
 
 changed_none : (T : ℕ → Type 0) (code : List Slot) → Changed T code code
-changed_none T code = record { len = refl; codes = λ _. refl; others = λ _ _. refl; fit = λ f. f }
+changed_none T code = search rules
 
 changed_both : (T : ℕ → Type 0) (a b c : List Slot) → Changed T a b → Changed T b c → Changed T a c
-changed_both T a b c p q =
-    record { len = q.len ∙ p.len; codes = λ i. q.codes i ∙ p.codes i; others = λ i h. q.others i h ∙ p.others i h; fit = λ f. q.fit (p.fit f) }
+changed_both T a b c p q = search rules
 
 -- a property of every slot, after one is set
 set_each : (P : Slot → Type 0) (code : List Slot) (i : ℕ) (s : Slot) (j : ℕ) → (j ≡ i → P s) → P (slot_at code j) → P (slot_at (set code i s) j)
@@ -98,12 +97,7 @@ src_fits r s h = omega arith
 
 module _ (name : Span) (t : Taken) (s new : Slot) (h : s.code ≡ CALL) where
   call_kin : (id : Option ℕ) (resolved weak : Bool) → call_slot id resolved weak name t s ≡ Ok new → Kin s new
-  call_kin (Some id) resolved weak e =
-      subst (Kin s) (ok_same _ new e) (record { code = refl; fit = λ f. record { code = f.code; regs = src_fits 2 s (omega arith); off = zero_fits_16; imm = read_sfits w32 _ } })
-  call_kin None true weak e = absurd (err_not _ new e)
-  call_kin None false true e =
-      subst (Kin s) (ok_same _ new e) (record { code = sym h; fit = λ f. record { code = omega arith; regs = omega arith; off = zero_fits_16; imm = read_sfits w32 _ } })
-  call_kin None false false e = absurd (err_not _ new e)
+  call_kin id resolved weak e = search rules
 
 -- ---- a load
 abbrev ValueFits : Option (ℕ × ℤ × ℤ) → Type 0
@@ -111,10 +105,7 @@ ValueFits None = Unit {0}
 ValueFits (Some v) = (v.0 < 16) × SFits w32 v.1 × SFits w32 v.2
 
 value_fits : (id address : Option ℕ) (weak : Bool) → ValueFits (load_value id address weak)
-value_fits (Some id) address weak = (omega arith, read_sfits w32 _, zero_fits_32)
-value_fits None (Some a) weak = (omega arith, read_sfits w32 _, read_sfits w32 _)
-value_fits None None true = (omega arith, zero_fits_32, zero_fits_32)
-value_fits None None false = tt
+value_fits id address weak = search rules
 
 module _ (T : ℕ → Type 0) (code new : List Slot) where
   call_changed : (t : Taken) (p : Result Slot Reason) → T (slot_index t) → ((s : Slot) → p ≡ Ok s → Kin (slot_at code (slot_index t)) s) → with_call code t p ≡ Ok new → Changed T code new
@@ -180,8 +171,7 @@ module _ (xs : List Extern) (ss : Symbols) where
       record { size = c.len ∙ k.size; same = λ i. c.codes i ∙ k.same i }
 
   touches_old : (old code : List Slot) (t : Taken) (i : ℕ) → Codes old code → Touches ss code t i → Touches ss old t i
-  touches_old old code t i k (n, inl q) = (n, inl q)
-  touches_old old code t i k (n, inr (l, q)) = (n, inr (ap (λ c. eqb c LOAD) (sym (k.same (slot_index t))) ∙ l, q))
+  touches_old old code t i k h = search rules
 
   -- refused or not: the slots are as many, they fit, and one that no relocation touches is as before
   pub patched_size : (ts : List Taken) (code : List Slot) → length (patched xs ss ts code).0 ≡ length code
@@ -244,8 +234,7 @@ module _ (xs : List Extern) (ss : Symbols) where
 
 -- ---- a load
 symbol_named : (xs : List Extern) (names : List ℕ) (t : Taken) (code : List Slot) (n : Span) (o : Option (ℕ × Symbol)) → name_in o ≡ Some n → patch_symbol xs names o t code ≡ patch_found (extern_named (part names n) xs) n t code
-symbol_named xs names t code n None e = absurd (none-some n e)
-symbol_named xs names t code n (Some k) e = ap (λ m. patch_name xs names m t code) e
+symbol_named xs names t code n o e = search rules
 
 module _ (xs : List Extern) (ss : Symbols) (t : Taken) (code new : List Slot) (n : Span) (a : ℕ) (k : ℕ × Extern) where
   load_new :
@@ -256,20 +245,7 @@ module _ (xs : List Extern) (ss : Symbols) (t : Taken) (code new : List Slot) (n
       → k.1.address ≡ Some a
       → is_load (slot_at code (slot_index t)) ≡ true
       → (has_next t ≡ true) × (with_pair code (slot_index t) (0, low a, high a) ≡ new)
-  load_new ok name row id address load =
-      let sy = patch_symbol xs ss.names (symbol_of ss t) t code in
-      let p : patch_found (extern_named (part ss.names n) xs) n t code ≡ Ok new =
-      sym (symbol_named xs ss.names t code n (symbol_of ss t) name) ∙ cond_both (on_slot t) sy _ (λ x. x ≡ Ok new → sy ≡ Ok new) (λ _ e. e) (λ _ e. absurd (err_not _ new e)) ok in
-      let q : patch_extern k.1 n t code ≡ Ok new = sym (ap (λ o. patch_found o n t code) row) ∙ p in
-      let c : is_call (slot_at code (slot_index t)) ≡ false = ap (λ x. eqb x CALL) (eqb-true _ LOAD load) in
-      let v : load_value k.1.id k.1.address k.1.weak ≡ Some (0, low a, high a) =
-      ap (λ o. load_value o k.1.address k.1.weak) id ∙ ap (λ o. load_value None o k.1.weak) address in
-      let w : cond (has_next t) (Ok (with_pair code (slot_index t) (0, low a, high a))) (Err (Reason.InvalidRelocationOffset t.row)) ≡ Ok new =
-      sym (ap (with_load code n t) v) ∙ sym (cond-true _ _ _ load) ∙ sym (cond-false _ _ _ c) ∙ q in
-      ⊎_elim
-      (λ h. (h, ok_same _ new (sym (cond-true (has_next t) _ _ h) ∙ w)))
-      (λ h. absurd (err_not _ new (sym (cond-false (has_next t) _ _ h) ∙ w)))
-      (cases_Bool (has_next t))
+  load_new ok name row id address load = search rules
 
 -- the two slots hold what a pair gets: the first with the source register 0
 pub record Paired (new old : List Slot) (i a : ℕ) : Type 0 where
@@ -277,15 +253,7 @@ pub record Paired (new old : List Slot) (i a : ℕ) : Type 0 where
   pub second : slot_at new (i + 1) ≡ with_imm (high a) (slot_at old (i + 1))
 
 pair_holds : (code : List Slot) (i a : ℕ) → i + 1 < length code → Paired (with_pair code i (0, low a, high a)) code i a
-pair_holds code i a h =
-    let s = with_imm (low a) (with_src 0 (slot_at code i)) in
-    let ne : i ≡ i + 1 → ⊥ = omega arith in
-    let l : i < length code = omega arith in
-    let m : i + 1 < length (set code i s) = subst (λ n. i + 1 < n) (sym (length-set code i s)) h in
-    record {
-      first = get_or-set_other (set code i s) (i + 1) i _ _ ne ∙ get_or-set_same code i s _ l;
-      second = get_or-set_same (set code i s) (i + 1) _ _ m;
-    }
+pair_holds code i a h = search rules
 
 -- a load of a name alone on its slots, in a granted relocation of functions that lie among the slots
 pub loads_hold :

@@ -1,5 +1,5 @@
 -- Options, results, tests of lists, the first refusal, the lookup, and names.
-use Rattle.std.proofs.Common.{◌≡◌, ℕ, suc, Bool, true, false, cond, ◌⊎◌, List, [], ◌∷◌, map, is_some, Some, None, Ok, Err, Option, Result, sym, refl, ap, ◌∙◌, subst, inl, inr, ⊎_elim, arith}
+use Rattle.std.proofs.Common.{rules, ◌≡◌, ℕ, suc, Bool, true, false, cond, ◌⊎◌, List, [], ◌∷◌, map, is_some, Some, None, Ok, Err, Option, Result, sym, refl, ap, ◌∙◌, subst, inl, inr, ⊎_elim, arith}
 use Rattle.std.specs.Option.{option_or}
 use Rattle.std.specs.List.{list_any, list_all}
 use Rattle.std.specs.Str.{bytes_eq}
@@ -14,36 +14,32 @@ pub ok_same : {X R : Type 0} (x y : X) → ◌≡◌ {A = Result X R} (Ok x) (Ok
 ok_same x y e = cc
 
 pub err_not : {X R : Type 0} (e : R) (x : X) → ◌≡◌ {A = Result X R} (Err e) (Ok x) → ⊥
-err_not e x h = let z : ◌≡◌ {A = ℕ} 0 1 = cc in omega arith
+err_not e x h = search rules
 
 pub some_is : {X : Type 0} (o : Option X) → (o ≡ None) ⊎ ((x : X) × (o ≡ Some x))
 some_is None = inl refl
 some_is (Some x) = inr (x, refl)
 
 pub none_is : {X : Type 0} (o : Option X) → is_some o ≡ false → o ≡ None
-none_is None e = refl
-none_is (Some x) e = absurd (true≢false e)
+none_is o e = search rules
 
 pub or_else_parts : {X : Type 0} (x y : Option X) → option_or x y ≡ None → (x ≡ None) × (y ≡ None)
-or_else_parts None y e = (refl, e)
-or_else_parts (Some x) y e = absurd (none-some x (sym e))
+or_else_parts x y e = search rules
 
 pub or_else_from : {X : Type 0} (x y : Option X) → x ≡ None → y ≡ None → option_or x y ≡ None
-or_else_from x y p q = ap (λ t. option_or t y) p ∙ q
+or_else_from x y p q = search rules
 
 -- a test before a refusal
 pub test_parts : {X : Type 0} (b : Bool) (x : Option X) (y : X) → cond b x (Some y) ≡ None → (b ≡ true) × (x ≡ None)
-test_parts true x y e = (refl, e)
-test_parts false x y e = absurd (none-some y (sym e))
+test_parts b x y e = search rules
 
 -- a refusal under a test
 pub when_parts : {X : Type 0} (b : Bool) (x : Option X) → cond b x None ≡ None → b ≡ true → x ≡ None
-when_parts b x e t = sym (cond-true b x None t) ∙ e
+when_parts b x e t = search rules
 
 -- ---- the first refusal
 numbered_none : {R : Type 0} (n : ℕ) (o : Option (ℕ → R)) → numbered n o ≡ None → o ≡ None
-numbered_none n None e = refl
-numbered_none n (Some f) e = absurd (none-some (f n) (sym e))
+numbered_none n o e = search rules
 
 module _ {X R : Type 0} (why : X → Option (ℕ → R)) where
   pub first_none : (n : ℕ) (xs : List X) → ((x : X) → In x xs → why x ≡ None) → first why n xs ≡ None
@@ -129,11 +125,10 @@ map_in f (x ∷ xs) y (inr i) = let r = map_in f xs y i in (r.0, inr r.1, r.2)
 
 -- ---- names
 pub not_same : (m n : List ℕ) → (m ≡ n → ⊥) → bytes_eq m n ≡ false
-not_same m n h = ⊎_elim (λ t. absurd (h ((bytes_eq-Decides m n).0 t))) (λ f. f) (cases_Bool (bytes_eq m n))
+not_same m n h = search rules
 
 pub reads_is : (o : Option (List ℕ)) (n : List ℕ) → reads_as o n ≡ true → o ≡ Some n
-reads_is None n e = absurd (false≢true e)
-reads_is (Some m) n e = ap Some ((bytes_eq-Decides m n).0 e)
+reads_is o n e = search rules
 
 pub is_read : (o : Option (List ℕ)) (n : List ℕ) → o ≡ Some n → reads_as o n ≡ true
-is_read o n e = ap (λ x. reads_as x n) e ∙ (bytes_eq-Decides n n).1 refl
+is_read o n e = search rules

@@ -1,5 +1,5 @@
 -- Which lines a resolution reads, and which line it is refused for.
-use Rattle.std.proofs.Common.{◌≡◌, ℕ, suc, ◌+◌, Bool, true, false, cond, not, ◌||◌, List, [], ◌∷◌, ◌++◌, map, length, is_some, Some, None, Option, sym, refl, ap, ◌∙◌, inl, inr, ⊎_elim, arith}
+use Rattle.std.proofs.Common.{rules, ◌≡◌, ℕ, suc, ◌+◌, Bool, true, false, cond, not, ◌||◌, List, [], ◌∷◌, ◌++◌, map, length, is_some, Some, None, Option, sym, refl, ap, ◌∙◌, inl, inr, ⊎_elim, arith}
 use Rattle.std.specs.Option.{option_or}
 use Rattle.std.specs.List.{list_any}
 use Rattle.std.proofs.lemmas.Bool.{cond-true, cond-false, or_left, or_right, or_from, true≢false, false_from_ne_true}
@@ -25,7 +25,7 @@ module _ (stops : List ℕ → Bool) where
 
 -- whether a resolution reads no line
 idle : (c : Option Catalogue) (xs : List Extern) → Reads c xs → (is_some (first (typed_refusal c) 0 xs) || not (list_any wanted xs)) ≡ false
-idle c xs (h, w) = or_from _ _ (ap is_some h) (ap not w)
+idle c xs h = search rules
 
 -- the first refusal is that of the first line that has one
 module _ (why : Line → Option (ℕ → Reason)) where
@@ -46,8 +46,7 @@ module _ (why : Line → Option (ℕ → Reason)) where
       ∙ ap (λ m. numbered m (why (said l))) e
 
 some_first : (n : ℕ) (o : Option (ℕ → Reason)) (r : Option Reason) → is_some o ≡ true → option_or (numbered n o) r ≡ numbered n o
-some_first n None r t = absurd (true≢false (sym t))
-some_first n (Some f) r t = refl
+some_first n o r t = search rules
 
 pub lines_are_read : LinesAreRead
 lines_are_read =

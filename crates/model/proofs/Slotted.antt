@@ -29,13 +29,10 @@ halves : (n : ℕ) → n < 2 ^ 16 → n % 256 + n / 256 * 256 ≡ n
 halves n h = omega arith
 
 quarters : (n : ℕ) → n < 2 ^ 32 → n % 256 + n / 256 % 256 * 256 + n / 65536 % 256 * 65536 + n / 16777216 * 16777216 ≡ n
-quarters n h = rw (← shr-shr n 16 8, ← shr-shr n 8 8) (omega arith)
+quarters n h = search rules
 
 slot_read : (s : Slot) → FitsSlot s → slot_of (slot_bytes s) ≡ s
-slot_read s f =
-    let off = ap (to_z w16) (halves (of_z w16 s.off) (Fits-of_z f.off).fits) ∙ to_z-of_z w16 s.off f.off in
-    let imm = ap (to_z w32) (quarters (of_z w32 s.imm) (Fits-of_z f.imm).fits) ∙ to_z-of_z w32 s.imm f.imm in
-    λ i. record { code = s.code; regs = s.regs; off = off i; imm = imm i }
+slot_read s f = search rules
 
 -- slots that are written before other bytes are read back before the slots of those
 pub slots_after : (ss : List Slot) (bs : List ℕ) → AllByRecursion FitsSlot ss → slots (slots_bytes ss ++ bs) ≡ ss ++ slots bs
@@ -64,11 +61,11 @@ reads_all zero k xs e = drop_all k xs (omega arith)
 reads_all (suc n) k xs e = drop_more xs k 0 (omega arith) ∙ ap (λ l. get_or xs k 0 ∷ l) (reads_all n (k + 1) xs (omega arith))
 
 halved : (a b : ℕ) → a < 256 → b < 256 → let n = of_z w16 (to_z w16 (a + b * 256)) in (n % 256 ≡ a) × (n / 256 ≡ b)
-halved a b p q = rw (of_z-to_z w16 (a + b * 256) (omega arith)) (omega arith, omega arith)
+halved a b p q = search rules
 
 quartered : (a b c d : ℕ) → a < 256 → b < 256 → c < 256 → d < 256
     → let n = of_z w32 (to_z w32 (a + b * 256 + c * 65536 + d * 16777216)) in (n % 256 ≡ a) × (n / 256 % 256 ≡ b) × (n / 65536 % 256 ≡ c) × (n / 16777216 ≡ d)
-quartered a b c d p q r s = rw (of_z-to_z w32 (a + b * 256 + c * 65536 + d * 16777216) (omega arith)) (omega arith, omega arith, omega arith, omega arith)
+quartered a b c d p q r s = search rules
 
 slot_written : (xs : List ℕ) → length xs ≡ 8 → AllByRecursion (λ b. b < 256) xs → slot_bytes (slot_of xs) ≡ xs
 slot_written xs e h =

@@ -1,5 +1,5 @@
 -- An address that a resolution gave stands, also in the slots that load it.
-use Rattle.std.proofs.Common.{◌≡◌, ℕ, suc, ◌+◌, ◌/◌, ◌^◌, ◌<◌, true, false, not, ◌||◌, eqb, ltb, leb, List, [], ◌∷◌, map, length, is_some, Some, None, Option, sym, refl, ap, ◌∙◌, subst, inl, inr, ⊎_elim}
+use Rattle.std.proofs.Common.{rules, ◌≡◌, ℕ, suc, ◌+◌, ◌/◌, ◌^◌, ◌<◌, true, false, not, ◌||◌, eqb, ltb, leb, List, [], ◌∷◌, map, length, is_some, Some, None, Option, sym, refl, ap, ◌∙◌, subst, inl, inr, ⊎_elim}
 use Rattle.std.specs.List.{list_all}
 use Rattle.std.specs.Str.{bytes_eq}
 use Rattle.std.proofs.lemmas.Bool.{cond-true, cond-false, cond_both, cases_Bool, and_parts, and_from, or_parts, ltb-true}
@@ -34,16 +34,10 @@ use Rattle.model.proofs.Slotted.{loads_address, slots_length}
 
 -- ---- an address that a line says is below 2 ^ 64
 limited_below : (o : Option ℕ) (a : ℕ) → limited o ≡ Some a → a < 2 ^ 64
-limited_below None a e = absurd (none-some a e)
-limited_below (Some n) a e =
-    cond_both (ltb n (2 ^ 64)) (Some n) None (λ o. o ≡ Some a → a < 2 ^ 64)
-    (λ t q. subst (λ z. z < 2 ^ 64) (same_Some n a q) (ltb-true n _ t)) (λ _ q. absurd (none-some a q)) e
+limited_below o a e = search rules
 
 said_below : (l n : List ℕ) (a : ℕ) → said l ≡ line n (Some a) → a < 2 ^ 64
-said_below l n a =
-    cond_both (ltb (length (fields 0 l)) 3) short (line (field 2 l).bytes (address (field 0 l).bytes)) (λ x. x ≡ line n (Some a) → a < 2 ^ 64)
-    (λ _ e. absurd (short_not n (Some a) e))
-    (λ _ e. limited_below (number (unsigned (field 0 l).bytes)) a (line_address (field 2 l).bytes n (address (field 0 l).bytes) (Some a) e))
+said_below l n a = search rules
 
 pub lists_below : (ls : List (List ℕ)) (n : List ℕ) (a : ℕ) → Lists ls n a → a < 2 ^ 64
 lists_below ls n a h = let k = map_in said ls (line n (Some a)) h.0 in said_below k.0 n a k.2
@@ -58,20 +52,13 @@ module _ (c : Option Catalogue) (ls : List Line) (p : Extern) (a : ℕ) (nonzero
     pub mark : x.resolved ≡ true
 
   id_took : (o : Option ℕ) → (given_id o p).address ≡ Some a → Took (given_id o p)
-  id_took None e = absurd (other e)
-  id_took (Some i) e = absurd (other e)
+  id_took o e = search rules
 
   found_took : (settled c ls p).address ≡ Some a → Took (settled c ls p)
-  found_took =
-      cond_both (is_some p.typed) _ _ (λ (x : Extern). x.address ≡ Some a → Took x) (λ _. id_took (fitting_id c p))
-      (λ t. cond_both (p.resolved || eqb (first_address p.name ls) 0) p (resolved_to p.id (Some (first_address p.name ls)) p) (λ (x : Extern). x.address ≡ Some a → Took x)
-      (λ _ e. absurd (other e))
-      (λ o e. record { typeless = none_is _ t; wants = and_from _ _ (ap not t) (ap not (or_parts _ _ o).0); is = same_Some _ _ e; mark = refl }))
+  found_took = search rules
 
   given_took : (given c ls p).address ≡ Some a → Took (given c ls p)
-  given_took =
-      cond_both ((settled c ls p).resolved || not (settled c ls p).weak) (settled c ls p) (addressed 0 (settled c ls p)) (λ (x : Extern). x.address ≡ Some a → Took x)
-      (λ _. found_took) (λ _ e. absurd (nonzero (sym (same_Some 0 a e))))
+  given_took = search rules
 
 change_took :
     (c : Option Catalogue) (ls : List (List ℕ)) (e : End) (st : State) (p : Extern) (a : ℕ) (nonzero : a ≡ 0 → ⊥) (other : p.address ≡ Some a → ⊥)
@@ -94,15 +81,10 @@ named_next n s st = ap (extern_named n) (next_change s st) ∙ named_map n (chan
 
 -- ---- a pair that holds an address loads it
 held : (new old : List Slot) (i a : ℕ) → a < 2 ^ 64 → Paired new old i a → Holds new i a
-held new old i a l p =
-    record {
-      low_half = ap (λ s. s.imm) p.first;
-      high_half = ap (λ s. s.imm) p.second;
-      loaded = ap (λ s. loads s (slot_at new (i + 1))) p.first ∙ ap (λ s. loads (with_imm (low a) (with_src 0 (slot_at old i))) s) p.second ∙ loads_address a (slot_at old i) (slot_at old (i + 1)) l;
-    }
+held new old i a l p = search rules
 
 follow_from : (fs : List Function) (n : ℕ) → functions_fit fs n ≡ true → follow 0 (slots_of fs) n ≡ true
-follow_from fs n h = (and_parts (ascends _ fs) (follow 0 (slots_of fs) n) (and_parts (list_all _ fs) _ (and_parts (leb (length fs) MAX_FUNCTIONS) _ h).1).1).1
+follow_from fs n h = search rules
 
 program_follow : (p : Program) (bs : List ℕ) → program_fits p bs ≡ true → follow 0 (slots_of p.functions) (length bs / 8) ≡ true
 program_follow p bs h =

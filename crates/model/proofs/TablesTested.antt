@@ -1,5 +1,5 @@
 -- The tests of the tables say exactly that the tables are well-formed.
-use Rattle.std.proofs.Common.{◌≡◌, ℕ, ◌/◌, ◌%◌, ◌<◌, ◌≤◌, Bool, true, false, ◌&&◌, ◌||◌, eqb, ltb, leb, ◌⊎◌, ◌↔◌, List, [], ◌∷◌, ◌++◌, length, Some, None, Option, sym, refl, ap, ◌∙◌, subst, inl, inr, ⊎_elim, arith}
+use Rattle.std.proofs.Common.{rules, ◌≡◌, ℕ, ◌/◌, ◌%◌, ◌<◌, ◌≤◌, Bool, true, false, ◌&&◌, ◌||◌, eqb, ltb, leb, ◌⊎◌, ◌↔◌, List, [], ◌∷◌, ◌++◌, length, Some, None, Option, sym, refl, ap, ◌∙◌, subst, inl, inr, ⊎_elim, arith}
 use Rattle.std.specs.List.{list_all}
 use Rattle.std.proofs.lemmas.Bool.{false≢true, cases_Bool, and_parts, and_from, or_left, or_right, or_from, or_parts, or_cases, ltb-true, lt-ltb, leb-true, le-leb, eqb-true, eq-eqb}
 use Rattle.std.proofs.lemmas.Option.{none-some, same_Some}
@@ -33,8 +33,7 @@ Ascending {X} R xs = (front : List X) (x : X) (middle : List X) (y : X) (back : 
 module _ {X : Type 0} (before : X → X → Bool) (R : X → X → Type 0)
     (is : (x y : X) → before x y ≡ true → R x y) (from : (x y : X) → R x y → before x y ≡ true) (on : (x y z : X) → R x y → R y z → R x z) where
   ascends_rest : (x : X) (xs : List X) → ascends before (x ∷ xs) ≡ true → ascends before xs ≡ true
-  ascends_rest x [] h = refl
-  ascends_rest x (y ∷ ys) h = (and_parts (before x y) _ h).1
+  ascends_rest x xs h = search rules
 
   ascends_first : (x : X) (middle : List X) (y : X) (back : List X) → ascends before (x ∷ (middle ++ y ∷ back)) ≡ true → R x y
   ascends_first x [] y back h = is x y (and_parts (before x y) _ h).0
@@ -55,19 +54,13 @@ module _ {X : Type 0} (before : X → X → Bool) (R : X → X → Type 0)
 
 -- pairs of numbers in order
 earlier_is : (p q : ℕ × ℕ) → earlier p q ≡ true → Before p q
-earlier_is p q h =
-    ⊎_elim (λ t. inl (ltb-true p.0 q.0 t)) (λ t. let b = and_parts (eqb p.0 q.0) (ltb p.1 q.1) t in inr (eqb-true p.0 q.0 b.0, ltb-true p.1 q.1 b.1))
-    (or_cases (ltb p.0 q.0) _ h)
+earlier_is p q h = search rules
 
 is_earlier : (p q : ℕ × ℕ) → Before p q → earlier p q ≡ true
-is_earlier p q (inl l) = or_left (ltb p.0 q.0) _ (lt-ltb p.0 q.0 l)
-is_earlier p q (inr b) = or_right (ltb p.0 q.0) _ (and_from (eqb p.0 q.0) _ (eq-eqb p.0 q.0 b.0) (lt-ltb p.1 q.1 b.1))
+is_earlier p q h = search rules
 
 before_on : (p q r : ℕ × ℕ) → Before p q → Before q r → Before p r
-before_on p q r (inl a) (inl b) = inl (omega arith)
-before_on p q r (inl a) (inr b) = inl (let e = b.0 in omega arith)
-before_on p q r (inr a) (inl b) = inl (let e = a.0 in omega arith)
-before_on p q r (inr a) (inr b) = inr (a.0 ∙ b.0, let c = a.1 in let d = b.1 in omega arith)
+before_on p q r h h2 = search rules
 
 keys_ascend : {X : Type 0} (key : X → ℕ × ℕ) (xs : List X) → (ascends (λ x y. earlier (key x) (key y)) xs ≡ true) ↔ Ascending (λ x y. Before (key x) (key y)) xs
 keys_ascend key xs =
@@ -76,22 +69,16 @@ keys_ascend key xs =
 
 -- ---- a BTF
 void_is : (ts : List BtfType) → void_first ts ≡ true → (0 < length ts) × (kind_number (type_at ts 0).kind ≡ 0)
-void_is [] h = absurd (false≢true h)
-void_is (t ∷ ts) h = (omega arith, eqb-true _ _ h)
+void_is ts h = search rules
 
 is_void : (ts : List BtfType) → 0 < length ts → kind_number (type_at ts 0).kind ≡ 0 → void_first ts ≡ true
-is_void [] l e = absurd (omega arith)
-is_void (t ∷ ts) l e = eq-eqb _ _ e
+is_void ts l e = search rules
 
 part_is : (r : BtfType) → parts_fit r ≡ true → of_kind 15 r ≡ false → of_kind 13 r ≡ false → r.parts.len ≡ 0
-part_is r h s p =
-    ⊎_elim (λ t. absurd (false≢true (sym (or_from (is_data_sec r) (is_func_proto r) s p) ∙ t))) (λ t. eqb-true _ _ t) (or_cases (is_data_sec r || is_func_proto r) (eqb r.parts.len 0) h)
+part_is r h s p = search rules
 
 is_part : (r : BtfType) → (of_kind 15 r ≡ false → of_kind 13 r ≡ false → r.parts.len ≡ 0) → parts_fit r ≡ true
-is_part r h =
-    ⊎_elim (λ t. or_left (is_data_sec r || is_func_proto r) _ t)
-    (λ t. let p = or_parts (is_data_sec r) (is_func_proto r) t in or_right (is_data_sec r || is_func_proto r) _ (eq-eqb _ _ (h p.0 p.1)))
-    (cases_Bool (is_data_sec r || is_func_proto r))
+is_part r h = search rules
 
 fits_formed : (t : Tables) → Fits t → WellFormedTables t
 fits_formed t f =
@@ -143,12 +130,10 @@ indices_ascend ss =
     (λ s t u a b. omega arith) ss
 
 inside_is : (names : List ℕ) (o : Option Span) → inside_if_any names o ≡ true → (n : Span) → o ≡ Some n → end_of n ≤ length names
-inside_is names None h n e = absurd (none-some n e)
-inside_is names (Some m) h n e = subst (λ (z : Span). end_of z ≤ length names) (same_Some m n e) (leb-true _ _ h)
+inside_is names o h n e = search rules
 
 is_inside : (names : List ℕ) (o : Option Span) → ((n : Span) → o ≡ Some n → end_of n ≤ length names) → inside_if_any names o ≡ true
-is_inside names None h = refl
-is_inside names (Some m) h = le-leb _ _ (h m refl)
+is_inside names o h = search rules
 
 module _ (ss : Symbols) where
   abbrev name_inside : Symbol → Bool

@@ -1,5 +1,5 @@
 -- The test of an object says that it is as collection leaves it.
-use Rattle.std.proofs.Common.{◌≡◌, ℕ, Bool, true, not, ◌&&◌, List, [], ◌∷◌, is_some, Some, None, Ok, Err, Option, Result, sym, refl, ap, ◌∙◌, ⊎_elim}
+use Rattle.std.proofs.Common.{rules, ◌≡◌, ℕ, Bool, true, not, ◌&&◌, List, [], ◌∷◌, is_some, Some, None, Ok, Err, Option, Result, sym, refl, ap, ◌∙◌, ⊎_elim}
 use Rattle.std.specs.List.{list_any, list_all}
 use Rattle.std.specs.Str.{bytes_eq}
 use Rattle.std.proofs.lemmas.Bool.{true≢false, false≢true, cases_Bool, and_parts, and_from, not-true, not_from_false}
@@ -75,13 +75,11 @@ module _ (t : Tables) where
 -- ---- the whole
 if_any : (o : Object) (xs : List Extern) → (xs ≡ [] → ⊥) → collected_if_any o xs ≡ true
     → (found_fits o.tables o.placeholder (section_of o.tables) ≡ true) × (externs_fit o.tables o.externs ≡ true)
-if_any o [] n h = absurd (n refl)
-if_any o (x ∷ xs) n h = and_parts _ _ h
+if_any o xs n h = search rules
 
 any_if : (o : Object) (xs : List Extern) → found_fits o.tables o.placeholder (section_of o.tables) ≡ true → externs_fit o.tables o.externs ≡ true
     → collected_if_any o xs ≡ true
-any_if o [] f e = refl
-any_if o (x ∷ xs) f e = and_from _ _ f e
+any_if o xs f e = search rules
 
 found_is : (o : Object) (r : Result (Option ℕ) Reason) → section_of o.tables ≡ r → found_fits o.tables o.placeholder r ≡ true
     → externs_fit o.tables o.externs ≡ true → Collected o

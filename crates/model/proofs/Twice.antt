@@ -1,5 +1,5 @@
 -- Fixup twice is fixup once.
-use Rattle.std.proofs.Common.{◌≡◌, ℕ, suc, ◌+◌, ◌*◌, ◌<◌, ◌≤◌, true, false, cond, ◌||◌, eqb, List, [], ◌∷◌, ◌++◌, length, set, is_some, Some, None, Option, sym, refl, ap, ◌∙◌, subst, ⊎_elim, arith}
+use Rattle.std.proofs.Common.{rules, ◌≡◌, ℕ, suc, ◌+◌, ◌*◌, ◌<◌, ◌≤◌, true, false, cond, ◌||◌, eqb, List, [], ◌∷◌, ◌++◌, length, set, is_some, Some, None, Option, sym, refl, ap, ◌∙◌, subst, ⊎_elim, arith}
 use Rattle.std.specs.List.{range_with_len}
 use Rattle.std.proofs.lemmas.List.{length-set, set-get_or, get_or-set_same, get_or-set_other}
 use Rattle.std.proofs.lemmas.Bool.{true≢false, cases_Bool, cases_eq, cond-true, cond-false, and_left, or_cases, eqb-true, ne_eqb}
@@ -27,31 +27,20 @@ pub record Good (ts : List BtfType) (int x : ℕ) : Type 0 where
   pub global : (type_at ts x).«data» ≡ 1
 
 kinds_apart : (r : BtfType) (a b : ℕ) → (a ≡ b → ⊥) → eqb (kind_number r.kind) a ≡ true → eqb (kind_number r.kind) b ≡ false
-kinds_apart r a b n h = ne_eqb _ _ (λ e. n (sym (eqb-true (kind_number r.kind) a h) ∙ e))
+kinds_apart r a b n h = search rules
 
 good_func : (ts : List BtfType) (int x : ℕ) → Good ts int x → is_func (type_at ts x) ≡ false
-good_func ts int x g = kinds_apart (type_at ts x) 14 12 (λ e. omega arith) g.var
+good_func ts int x g = search rules
 
 -- another row is set, or the row itself is made so
 good_set : (ts : List BtfType) (int id x : ℕ) (r : BtfType) → ((x ≡ id) → ⊥) → Good ts int x → Good (set ts id r) int x
-good_set ts int id x r n g =
-    let same : type_at (set ts id r) x ≡ type_at ts x = get_or-set_other ts id x r no_row n in
-    let l = length-set ts id r in
-    let b = g.below in
-    record { below = omega arith; var = ap is_var same ∙ g.var; type = ap (λ (z : BtfType). z.size_or_type) same ∙ g.type; global = ap (λ (z : BtfType). z.«data») same ∙ g.global }
+good_set ts int id x r n g = search rules
 
 good_made : (ts : List BtfType) (int x : ℕ) → x < length ts → is_var (type_at ts x) ≡ true → Good (set ts x (global_var int (type_at ts x))) int x
-good_made ts int x lt v =
-    let r = global_var int (type_at ts x) in
-    let same : type_at (set ts x r) x ≡ r = get_or-set_same ts x r no_row lt in
-    let l = length-set ts x r in
-    record { below = omega arith; var = ap is_var same ∙ v; type = ap (λ (z : BtfType). z.size_or_type) same; global = ap (λ (z : BtfType). z.«data») same }
+good_made ts int x lt v = search rules
 
 good_var : (ts : List BtfType) (int id x : ℕ) → Good ts int x → Good (set ts id (global_var int (type_at ts id))) int x
-good_var ts int id x g =
-    ⊎_elim
-    (λ (e : x ≡ id). subst (λ j. Good (set ts j (global_var int (type_at ts j))) int x) e (good_made ts int x g.below g.var))
-    (λ n. good_set ts int id x (global_var int (type_at ts id)) n g) (cases_eq x id)
+good_var ts int id x g = search rules
 
 -- what was fixed stays fixed
 good_entry : (p : Option ℕ) (int at i : ℕ) (t : Tables) (x : ℕ) → Good t.types int x → Good (fix_entry p int at i t).types int x
@@ -103,7 +92,7 @@ idle_entries p int start t len h =
 
 -- ---- a Func or a Var is no Int, before and after
 no_int : (r : BtfType) → (is_func r || is_var r) ≡ true → is_int r ≡ false
-no_int r h = ⊎_elim (λ e. kinds_apart r 12 1 (λ n. omega arith) e) (λ e. kinds_apart r 14 1 (λ n. omega arith) e) (or_cases (is_func r) (is_var r) h)
+no_int r h = search rules
 
 int_entry : (p : Option ℕ) (int at i : ℕ) (t : Tables) → (is_func (row_at p int at i t) || is_var (row_at p int at i t)) ≡ true
     → (x : ℕ) → is_int_of_four (type_at (fix_entry p int at i t).types x) ≡ is_int_of_four (type_at t.types x)
@@ -228,8 +217,7 @@ same_first n (t ∷ ts) (u ∷ us) e h =
     (cases_Bool (is_int_of_four t))
 
 number_none : {X : Type 0} (o : Option (ℕ × X)) → number_of o ≡ None → o ≡ None
-number_none None e = refl
-number_none (Some k) e = absurd (none-some k.0 (sym e))
+number_none o e = search rules
 
 first_push : (n : ℕ) (ts : List BtfType) (u : BtfType) → is_int_of_four u ≡ true → lookup is_int_of_four n ts ≡ None
     → number_of (lookup is_int_of_four n (ts ++ u ∷ [])) ≡ Some (n + length ts)
@@ -254,12 +242,10 @@ GlobalVar p t = (q : ℕ) → p ≡ Some q → (is_var (type_at t.types q) ≡ t
 
 -- the int row is the type of the placeholder
 int_is : (p : Option ℕ) (t : Tables) (q : ℕ) → p ≡ Some q → (type_at t.types q).size_or_type ≡ (with_int (int_of p t.types) t).0
-int_is None t q e = absurd (none-some q e)
-int_is (Some r) t q e = ap (λ j. (type_at t.types j).size_or_type) (sym (same_Some r q e))
+int_is p t q e = search rules
 
 int_again : (p : Option ℕ) (v : Tables) (int : ℕ) → ((q : ℕ) → p ≡ Some q → Good v.types int q) → (p ≡ None → first_int v.types ≡ Some int) → int_of p v.types ≡ Some int
-int_again None v int g f = f refl
-int_again (Some q) v int g f = ap Some (g q refl).type
+int_again p v int g f = search rules
 
 module _ (o : Object) (c : Collected o) (f : Fits o.tables) (g : GlobalVar o.placeholder o.tables) where
   abbrev p : Option ℕ
@@ -275,18 +261,7 @@ module _ (o : Object) (c : Collected o) (f : Fits o.tables) (g : GlobalVar o.pla
   d = c.section
 
   held : (q : ℕ) → p ≡ Some q → Good one.types int q × Ready p int (begin p d int one) one (size p d int one) q
-  held q e =
-      let h = one_declared o c q (c.placeholder q e) in
-      let same = longer_at o.tables one (one_longer o c) q (declared_is o.tables q (c.placeholder q e)).below in
-      let v = g q e in (
-        record {
-          below = h.below;
-          var = ap is_var same ∙ v.0;
-          type = ap (λ (r : BtfType). r.size_or_type) same ∙ int_is p o.tables q e;
-          global = ap (λ (r : BtfType). r.«data») same ∙ v.1;
-        },
-        (h, λ k. ap is_some e),
-      )
+  held q e = search rules
 
   went : Going p int (begin p d int one) one (size p d int one) (size p d int one) (gone p d int one)
   went =

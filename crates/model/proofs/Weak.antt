@@ -1,5 +1,5 @@
 -- Weak for strong: what is granted on an object is granted with some of its externs made weak, and ends alike.
-use Rattle.std.proofs.Common.{◌≡◌, ℕ, suc, ◌/◌, Bool, true, false, cond, not, ◌&&◌, ◌||◌, eqb, leb, List, [], ◌∷◌, map, length, is_some, is_ok, Some, None, Ok, Err, Option, Result, sym, refl, ap, ◌∙◌, subst, inl, inr, ⊎_elim}
+use Rattle.std.proofs.Common.{rules, ◌≡◌, ℕ, suc, ◌/◌, Bool, true, false, cond, not, ◌&&◌, ◌||◌, eqb, leb, List, [], ◌∷◌, map, length, is_some, is_ok, Some, None, Ok, Err, Option, Result, sym, refl, ap, ◌∙◌, subst, inl, inr, ⊎_elim}
 use Rattle.std.specs.Str.{bytes_eq}
 use Rattle.std.proofs.lemmas.Bool.{cond-true, cond-false, cond_both, cases_Bool, and_from, and_left, and_right, or_left}
 use Rattle.std.proofs.lemmas.Option.{none-some}
@@ -56,17 +56,13 @@ fits_weak s m st = ap (λ b. b && brings_fit s st.code) (object_fits_weak m st.o
 
 -- ---- a granted resolution is granted
 typed_weak : (c : Option Catalogue) (b : Bool) (x : Extern) → typed_refusal c x ≡ None → typed_refusal c (weaker b x) ≡ None
-typed_weak c true x h = cond-false _ _ _ (and_right (is_some x.typed) false refl)
-typed_weak c false x h = h
+typed_weak c b x h = search rules
 
 missing_weak : (ls : List Line) (b : Bool) (x : Extern) → missing_refusal ls x ≡ None → missing_refusal ls (weaker b x) ≡ None
-missing_weak ls true x h = cond-false _ _ _ (and_left _ _ (and_right (wanted x) false refl))
-missing_weak ls false x h = h
+missing_weak ls b x h = search rules
 
 line_same : (a : ℕ) (b : Option ℕ) (o q : Option (ℕ × Extern)) → Found weaker o q → wanted_refusal q a b ≡ wanted_refusal o a b
-line_same a b None q w = ap (λ o. wanted_refusal o a b) w
-line_same a None (Some k) q w = ap (λ o. wanted_refusal o a None) w.1
-line_same a (Some b) (Some k) q w = ap (λ o. wanted_refusal o a (Some b)) w.1
+line_same a b o q w = search rules
 
 line_weak : (m : ℕ → Bool) (xs : List Extern) (ls : List Line) (l : Line) → line_refusal (weakened m xs) ls l ≡ line_refusal xs ls l
 line_weak m xs ls (line n o) = line_same (first_address n ls) o _ _ (lookup_masked weaker (λ x. wanted x && bytes_eq x.name n) (λ b x. refl) 0 m xs)
@@ -92,28 +88,19 @@ clear_weak m c ls e xs k =
 
 -- ---- what a granted resolution sets
 weaker_same : (b : Bool) (x : Extern) → x.weak ≡ true → weaker b x ≡ x
-weaker_same true x e =
-    λ i. record { name = x.name; place = x.place; entry = x.entry; func = x.func; typed = x.typed; weak = sym e i; resolved = x.resolved; id = x.id; address = x.address }
-weaker_same false x e = refl
+weaker_same b x e = search rules
 
 given_id_weak : (b : Bool) (o : Option ℕ) (x : Extern) → given_id o (weaker b x) ≡ weaker b (given_id o x)
-given_id_weak b None x = refl
-given_id_weak b (Some i) x = refl
+given_id_weak b o x = search rules
 
 cond_weak : (b t : Bool) (x y : Extern) → cond t (weaker b x) (weaker b y) ≡ weaker b (cond t x y)
-cond_weak b true x y = refl
-cond_weak b false x y = refl
+cond_weak b t x y = search rules
 
 fitting_weak : (c : Option Catalogue) (b : Bool) (x : Extern) → fitting_id c (weaker b x) ≡ fitting_id c x
-fitting_weak None b x = refl
-fitting_weak (Some c) b x = refl
+fitting_weak c b x = search rules
 
 settled_weak : (c : Option Catalogue) (ls : List Line) (b : Bool) (x : Extern) → settled c ls (weaker b x) ≡ weaker b (settled c ls x)
-settled_weak c ls b x =
-    let a = first_address x.name ls in
-    let by_id : given_id (fitting_id c (weaker b x)) (weaker b x) ≡ weaker b (given_id (fitting_id c x) x) = ap (λ o. given_id o (weaker b x)) (fitting_weak c b x) ∙ given_id_weak b (fitting_id c x) x in
-    let by_address : given_address a (weaker b x) ≡ weaker b (given_address a x) = cond_weak b (x.resolved || eqb a 0) x (resolved_to x.id (Some a) x) in
-    (λ i. cond (is_some x.typed) (by_id i) (by_address i)) ∙ cond_weak b (is_some x.typed) (given_id (fitting_id c x) x) (given_address a x)
+settled_weak c ls b x = search rules
 
 fits_id : (c : Option Catalogue) (x : Extern) → catalogue_refusal c x ≡ None → (i : ℕ) × (fitting_id c x ≡ Some i)
 fits_id None x h = absurd (none-some _ (sym h))
@@ -123,30 +110,13 @@ fits_id (Some c) x h =
 
 -- a strong extern is resolved by a granted resolution
 strong_resolved : (c : Option Catalogue) (ls : List Line) (x : Extern) → typed_refusal c x ≡ None → missing_refusal ls x ≡ None → x.weak ≡ false → (settled c ls x).resolved ≡ true
-strong_resolved c ls x h k w =
-    cond_both (is_some x.typed) (given_id (fitting_id c x) x) (given_address (first_address x.name ls) x) (λ y. y.resolved ≡ true)
-    (λ t.
-    let i = fits_id c x (when_parts _ _ h (and_from _ _ t (ap not w))) in
-    ap (λ o. (given_id o x).resolved) i.1)
-    (λ t. cond_both (x.resolved || eqb (first_address x.name ls) 0) x _ (λ y. y.resolved ≡ true)
-    (λ o. ⊎_elim (λ y. y)
-    (λ y.
-    let z : eqb (first_address x.name ls) 0 ≡ true = ap (λ v. v || eqb (first_address x.name ls) 0) (sym y) ∙ o in
-    absurd (none-some _ (sym (when_parts ((wanted x && not x.weak) && eqb (first_address x.name ls) 0) (Some _) k (and_from _ _ (and_from _ _ (and_from _ _ (ap not t) (ap not y)) (ap not w)) z)))))
-    (cases_Bool x.resolved))
-    (λ _. refl))
+strong_resolved c ls x h k w = search rules
 
 zeroed_same : (x : Extern) → x.resolved ≡ true → zeroed x ≡ x
-zeroed_same x e = cond-true _ _ _ (or_left _ _ e)
+zeroed_same x e = search rules
 
 given_weak : (c : Option Catalogue) (ls : List Line) (b : Bool) (x : Extern) → typed_refusal c x ≡ None → missing_refusal ls x ≡ None → given c ls (weaker b x) ≡ weaker b (given c ls x)
-given_weak c ls b x h k =
-    ⊎_elim
-    (λ w. ap (given c ls) (weaker_same b x w) ∙ sym (weaker_same b (given c ls x) (kept_weak (given_kept c ls x) ∙ w)))
-    (λ w.
-    let s = strong_resolved c ls x h k w in
-    ap zeroed (settled_weak c ls b x) ∙ zeroed_same (weaker b (settled c ls x)) s ∙ ap (weaker b) (sym (zeroed_same (settled c ls x) s)))
-    (cases_Bool x.weak)
+given_weak c ls b x h k = search rules
 
 map_weak :
     (f : Extern → Extern) (m : ℕ → Bool) (xs : List Extern)
@@ -166,26 +136,16 @@ cond_same false p q p' q' h k = k
 
 module _ (code : List Slot) (t : Taken) where
   call_weak : (id : Option ℕ) (resolved weak : Bool) (name : Span) (s : Slot) → Same (with_call code t (call_slot id resolved weak name t s)) (with_call code t (call_slot id resolved true name t s))
-  call_weak (Some id) resolved weak name s x e = e
-  call_weak None true weak name s x e = e
-  call_weak None false true name s x e = e
-  call_weak None false false name s x e = absurd (err_not _ x e)
+  call_weak id resolved weak name s x e = search rules
 
   load_weak : (id address : Option ℕ) (weak : Bool) (name : Span) → Same (with_load code name t (load_value id address weak)) (with_load code name t (load_value id address true))
-  load_weak (Some id) address weak name x e = e
-  load_weak None (Some a) weak name x e = e
-  load_weak None None true name x e = e
-  load_weak None None false name x e = absurd (err_not _ x e)
+  load_weak id address weak name x e = search rules
 
   extern_weak : (b : Bool) (x : Extern) (name : Span) → Same (patch_extern x name t code) (patch_extern (weaker b x) name t code)
-  extern_weak false x name = λ y e. e
-  extern_weak true x name =
-      cond_same (is_call (slot_at code (slot_index t))) _ _ _ _ (call_weak x.id x.resolved x.weak name _)
-      (cond_same (is_load (slot_at code (slot_index t))) _ _ _ _ (load_weak x.id x.address x.weak name) (λ y e. e))
+  extern_weak b x name = search rules
 
   found_weak : (name : Span) (o q : Option (ℕ × Extern)) → Found weaker o q → Same (patch_found o name t code) (patch_found q name t code)
-  found_weak name None q w x e = ap (λ z. patch_found z name t code) w ∙ e
-  found_weak name (Some k) q w x e = ap (λ z. patch_found z name t code) w.1 ∙ extern_weak w.0 k.1 name x e
+  found_weak name o q w x e = search rules
 
   module _ (m : ℕ → Bool) (xs : List Extern) where
     name_weak : (names : List ℕ) (o : Option Span) → Same (patch_name xs names o t code) (patch_name (weakened m xs) names o t code)
@@ -211,8 +171,7 @@ patched_weak m xs ss (t ∷ ts) code h =
 
 -- ---- one call
 fix_weak : (m : ℕ → Bool) (xs : List Extern) (p : Option ℕ) (t : Tables) → (fix_refusal_for (weakened m xs) p t ≡ fix_refusal_for xs p t) × (fixed_for (weakened m xs) p t ≡ fixed_for xs p t)
-fix_weak m [] p t = (refl, refl)
-fix_weak m (x ∷ xs) p t = (refl, refl)
+fix_weak m xs p t = search rules
 
 -- a call that meets no refusal meets none, makes the same object but for the weak marks, and the same code
 record Follows (s : Step) (m : ℕ → Bool) (st : State) : Type 0 where
@@ -286,8 +245,7 @@ abbrev weaker_program : (ℕ → Bool) → Program → Program
 weaker_program m p = record { functions = p.functions; relocations = p.relocations; symbols = weaker_symbols m p.symbols }
 
 symbol_marks : (xs : List Extern) (names : List ℕ) (t : Taken) (code : List Slot) (o q : Option (ℕ × Symbol)) → Found weaker_symbol o q → patch_symbol xs names q t code ≡ patch_symbol xs names o t code
-symbol_marks xs names t code None q w = ap (λ z. patch_symbol xs names z t code) w
-symbol_marks xs names t code (Some k) q w = ap (λ z. patch_symbol xs names z t code) w.1
+symbol_marks xs names t code o q w = search rules
 
 module _ (xs : List Extern) (m : ℕ → Bool) (ss : Symbols) where
   abbrev ww : Symbols

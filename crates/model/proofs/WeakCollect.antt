@@ -1,5 +1,5 @@
 -- Externs made weak, and the collection of symbols declared weak.
-use Rattle.std.proofs.Common.{◌≡◌, ℕ, zero, suc, Bool, true, false, cond, ◌&&◌, ◌||◌, ltb, leb, List, [], ◌∷◌, map, length, Some, None, Ok, Err, Option, Result, sym, refl, ap, ◌∙◌, subst, inl, inr}
+use Rattle.std.proofs.Common.{rules, ◌≡◌, ℕ, zero, suc, Bool, true, false, cond, ◌&&◌, ◌||◌, ltb, leb, List, [], ◌∷◌, map, length, Some, None, Ok, Err, Option, Result, sym, refl, ap, ◌∙◌, subst, inl, inr}
 use Rattle.std.specs.Option.{option_or}
 use Rattle.std.specs.List.{list_any, list_all}
 use Rattle.std.specs.Str.{bytes_eq}
@@ -92,15 +92,14 @@ weakened_object m o = record { tables = o.tables; externs = weakened m o.externs
 
 -- ---- weaker symbols
 pub rows_masked : (m : ℕ → Bool) (ss : List Symbol) → weaker_rows m ss ≡ masked weaker_symbol m ss
-rows_masked m [] = refl
-rows_masked m (s ∷ ss) = ap (λ t. weaker_symbol (m 0) s ∷ t) (rows_masked (λ i. m (suc i)) ss)
+rows_masked m ss = search rules
 
 module _ (m : ℕ → Bool) (ss : Symbols) where
   abbrev changed : Symbols
   changed = record { rows = masked weaker_symbol m ss.rows; names = ss.names }
 
   pub changed_is : weaker_symbols m ss ≡ changed
-  changed_is = λ i. record { rows = rows_masked m ss.rows i; names = ss.names }
+  changed_is = search rules
 
   pub symbols_fit_weak : symbols_fit changed ≡ symbols_fit ss
   symbols_fit_weak = λ i.
@@ -117,19 +116,14 @@ Alike f (Err e) q = q ≡ Err e
 Alike {D} f (Ok x) q = (d : D) × (q ≡ Ok (f d x))
 
 cond_alike : {D X : Type 0} (f : D → X → X) (b : Bool) (p q : Result X Reason) (e : Reason) → Alike f p q → Alike f (cond b p (Err e)) (cond b q (Err e))
-cond_alike f true p q e h = h
-cond_alike f false p q e h = refl
+cond_alike f b p q e h = search rules
 
 -- ---- one entry
 chain_alike : (n id : ℕ) (row : BtfType) (name : List ℕ) (b weak : Bool) (r : Result ℕ ChainError) → Alike weaker (chain_read n id row name weak r) (chain_read n id row name (b || weak) r)
-chain_alike n id row name b weak (Err e) = refl
-chain_alike n id row name b weak (Ok target) = (b, refl)
+chain_alike n id row name b weak r = search rules
 
 symbol_alike : (ts : List BtfType) (n id : ℕ) (row : BtfType) (name : List ℕ) (o q : Option (ℕ × Symbol)) → Found weaker_symbol o q → Alike weaker (symbol_read ts n id row name o) (symbol_read ts n id row name q)
-symbol_alike ts n id row name None q w = ap (symbol_read ts n id row name) w
-symbol_alike ts n id row name (Some k) q w =
-    subst (λ o. Alike weaker (symbol_read ts n id row name (Some k)) (symbol_read ts n id row name o)) (sym w.1)
-    (chain_alike n id row name w.0 k.1.is_weak (resolve_type ts row.size_or_type))
+symbol_alike ts n id row name o q w = search rules
 
 module _ (t : Tables) (m : ℕ → Bool) (ss : Symbols) where
   name_alike : (n id : ℕ) (row : BtfType) (o : Option (List ℕ)) → Alike weaker (name_read t.types ss n id row o) (name_read t.types (changed m ss) n id row o)
@@ -163,12 +157,10 @@ duplicate_weak before front h n m (x ∷ xs) = λ i.
     cond (h x.name i) (Some (Reason.DuplicateName n)) (duplicate_weak (x ∷ before) (weaker (m 0) x ∷ front) (λ z. ap (λ t. bytes_eq x.name z || t) (h z)) (suc n) (λ j. m (suc j)) xs i)
 
 made_weak : (func : Bool) (m : ℕ → Bool) (xs : List Extern) (t : Tables) → made func (weakened m xs) t ≡ weakened_object m (made func xs t)
-made_weak false m xs t = refl
-made_weak true m xs t = refl
+made_weak func m xs t = search rules
 
 unless_alike : (r : Option Reason) (m : ℕ → Bool) (o : Object) → Alike weakened_object (granted_unless r o) (granted_unless r (weakened_object m o))
-unless_alike None m o = (m, refl)
-unless_alike (Some e) m o = refl
+unless_alike r m o = search rules
 
 module _ (t : Tables) where
   rows_weak : (n : ℕ) (func : Bool) (m : ℕ → Bool) (xs : List Extern) → Alike weakened_object (collect_rows t n func (Ok xs)) (collect_rows t n func (Ok (weakened m xs)))

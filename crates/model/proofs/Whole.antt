@@ -1,5 +1,5 @@
 -- Runs of a collected object: it stays well-formed, and the laws of every list of calls.
-use Rattle.std.proofs.Common.{◌≡◌, ℕ, ◌+◌, ◌≤◌, Bool, true, cond, not, ◌&&◌, ◌||◌, leb, ◌⊎◌, List, [], ◌∷◌, map, length, Some, None, Option, sym, refl, ap, ◌∙◌, subst, inl, inr, ⊎_elim, arith}
+use Rattle.std.proofs.Common.{rules, ◌≡◌, ℕ, ◌+◌, ◌≤◌, Bool, true, cond, not, ◌&&◌, ◌||◌, leb, ◌⊎◌, List, [], ◌∷◌, map, length, Some, None, Option, sym, refl, ap, ◌∙◌, subst, inl, inr, ⊎_elim, arith}
 use Rattle.std.specs.List.{list_any, list_all}
 use Rattle.std.specs.Str.{bytes_eq}
 use Rattle.std.proofs.lemmas.List.{length-map, length-append}
@@ -140,10 +140,7 @@ record Room (o u : Object) : Type 0 where
   params : length u.tables.params ≡ length o.tables.params
 
 same_room : (o u : Object) → u.tables ≡ o.tables → Room o u
-same_room o u e =
-    let a = ap (λ (t : Tables). length t.types) e in
-    let b = ap (λ (t : Tables). length t.strings) e in
-    record { types = omega arith; strings = omega arith; entries = ap (λ (t : Tables). length t.entries) e; params = ap (λ (t : Tables). length t.params) e }
+same_room o u e = search rules
 
 -- an int row takes one row and its name, and the rest is rewritten in place
 int_room : (t : Tables) (o : Option ℕ) → (length (with_int o t).1.types ≤ length t.types + 1) × (length (with_int o t).1.strings ≤ length t.strings + length int_name) × ((with_int o t).1.entries ≡ t.entries) × ((with_int o t).1.params ≡ t.params)
@@ -172,24 +169,13 @@ abbrev Grew : Object → Object → Type 0
 Grew o u = (u.tables ≡ o.tables) ⊎ (Room o u × (fixed_for u.externs u.placeholder u.tables ≡ u.tables))
 
 fixed_map : (f : Extern → Extern) (xs : List Extern) (p : Option ℕ) (t : Tables) → fixed_for (map f xs) p t ≡ fixed_for xs p t
-fixed_map f [] p t = refl
-fixed_map f (x ∷ xs) p t = refl
+fixed_map f xs p t = search rules
 
 room_over : (o u v : Object) → u.tables ≡ o.tables → Room u v → Room o v
-room_over o u v e r =
-    let a = ap (λ (t : Tables). length t.types) e in
-    let b = ap (λ (t : Tables). length t.strings) e in
-    let c = r.types in
-    let d = r.strings in
-    record { types = omega arith; strings = omega arith; entries = r.entries ∙ ap (λ (t : Tables). length t.entries) e; params = r.params ∙ ap (λ (t : Tables). length t.params) e }
+room_over o u v e r = search rules
 
 room_on : (o u v : Object) → v.tables ≡ u.tables → Room o u → Room o v
-room_on o u v e r =
-    let a = ap (λ (t : Tables). length t.types) e in
-    let b = ap (λ (t : Tables). length t.strings) e in
-    let c = r.types in
-    let d = r.strings in
-    record { types = omega arith; strings = omega arith; entries = ap (λ (t : Tables). length t.entries) e ∙ r.entries; params = ap (λ (t : Tables). length t.params) e ∙ r.params }
+room_on o u v e r = search rules
 
 made_grew : (o : Object) (s : Step) (st : State) → Sound st.object → granted s st ≡ true → Grew o st.object → Grew o (made s st.object)
 made_grew o (resolve c ls e) st k g (inl q) = inl q
