@@ -1,4 +1,5 @@
 -- The code of a run: bytes, as many as before, that are read as the slots that relocation made.
+use Rattle.std.proofs.lemmas.Grind.{common_steps}
 use Rattle.std.proofs.Common.{◌≡◌, ℕ, zero, suc, ◌*◌, ◌/◌, ◌%◌, ◌<◌, true, List, [], ◌∷◌, length, refl, ap, ◌∙◌, arith, w16, w32}
 use borrow.Author.Gap.{read_sfits}
 use Rattle.std.specs.List.{AllByRecursion}
@@ -20,9 +21,7 @@ each_all [] f = tt
 each_all (s ∷ ss) f = (f 0, each_all ss (λ i. f (suc i)))
 
 all_each : (ss : List Slot) → AllByRecursion FitsSlot ss → EachFits ss
-all_each [] f i = record { code = omega arith; regs = omega arith; off = read_sfits w16 0; imm = read_sfits w32 0 }
-all_each (s ∷ ss) f zero = f.0
-all_each (s ∷ ss) f (suc i) = all_each ss f.1 i
+all_each ss f i = grind (arith, common_steps)
 
 relocated_fits : (p : Program) (st : State) → Bytes st.code → AllByRecursion FitsSlot (relocated st.object.externs p (slots st.code)).0
 relocated_fits p st b =

@@ -1,4 +1,5 @@
 -- A granted collection makes a well-formed object.
+use Rattle.std.proofs.lemmas.Grind.{common_steps}
 use Rattle.std.proofs.Common.{rules, ◌≡◌, ℕ, zero, suc, ◌<◌, Bool, true, false, cond, ◌&&◌, ◌||◌, ltb, leb, ◌⊎◌, List, [], ◌∷◌, ◌++◌, length, is_some, Some, None, Ok, Err, Option, Result, sym, refl, ap, ◌∙◌, subst, inl, inr, ⊎_elim, arith}
 use Rattle.std.specs.Option.{option_or}
 use Rattle.std.specs.List.{list_any}
@@ -191,12 +192,10 @@ module _ (t : Tables) (ss : Symbols) (o : Object) where
   section_came r s h = search rules
 
   pub collect_fits : collect t ss ≡ Ok o → (tables_fit t ≡ true) × (symbols_fit ss ≡ true) × (collect_section t ss (section_of t) ≡ Ok o)
-  collect_fits h =
-      ⊎_elim (λ e. let p = and_parts (tables_fit t) (symbols_fit ss) e in (p.0, p.1, sym (cond-true (tables_fit t && symbols_fit ss) _ _ e) ∙ h))
-      (λ e. absurd (err_not _ _ (sym (cond-false (tables_fit t && symbols_fit ss) _ _ e) ∙ h))) (cases_Bool (tables_fit t && symbols_fit ss))
+  collect_fits h = grind (arith, common_steps)
 
   pub collect_passed : collect t ss ≡ Ok o → ((section_of t ≡ Ok None) × (made false [] t ≡ o)) ⊎ Passed t ss o
-  collect_passed h = section_came (section_of t) refl (collect_fits h).2
+  collect_passed h = grind (arith, common_steps)
 
 -- ---- the object made
 -- a new placeholder declares, and is a global Var
@@ -206,22 +205,7 @@ record New (t : Tables) (p : ℕ) : Type 0 where
   global : (type_at t.types p).«data» ≡ 1
 
 new_placeholder : (int : ℕ) (t : Tables) → int < length t.types → New (added (placeholder_row int) placeholder_name t) (length t.types)
-new_placeholder int t lt =
-    let u = placeholder_row int (length t.strings) in
-    let n = length_push t.types u in
-    let row : type_at (t.types ++ u ∷ []) (length t.types) ≡ u = get_or_push t.types u no_row (length t.types) refl in
-    let name : name_at (t.strings ++ placeholder_name) (length t.strings) ≡ to_zero placeholder_name = ap to_zero (drop_at t.strings placeholder_name (length t.strings) refl) in
-    record {
-      declared =
-          record {
-            below = omega arith;
-            kind = ap (λ r. is_func r || is_var r) row;
-            name = ap (λ r. is_some (name_at (t.strings ++ placeholder_name) r.name_offset)) row ∙ ap is_some name;
-            type = subst (λ r. r.size_or_type < length (t.types ++ u ∷ [])) (sym row) (omega arith);
-          };
-      var = ap is_var row;
-      global = ap (λ r. r.«data») row;
-    }
+new_placeholder int t lt = grind (arith, common_steps)
 
 module _ (t : Tables) (xs : List Extern) where
   pub made_externs : (func : Bool) → (made func xs t).externs ≡ xs

@@ -1,4 +1,5 @@
 -- A granted fixup keeps an object well-formed, and leaves the rows that it is not about.
+use Rattle.std.proofs.lemmas.Grind.{common_steps}
 use Rattle.std.proofs.Common.{rules, ◌≡◌, ℕ, zero, suc, ◌+◌, ◌*◌, ◌<◌, ◌≤◌, Bool, true, false, cond, not, ◌&&◌, ◌||◌, eqb, leb, ◌⊎◌, List, [], ◌∷◌, ◌++◌, map, length, get_or, take, drop, set, is_some, Some, None, Ok, Option, sym, refl, ap, ◌∙◌, subst, inl, inr, ⊎_elim, arith}
 use lib.Seq.{take-nil, drop-nil}
 use Rattle.std.specs.List.{range_with_len}
@@ -32,11 +33,7 @@ use Rattle.model.proofs.Grown.{Shape, shape_same, alike_length, alike_at, alike_
 -- ---- lists
 -- what stands in a list where one place was set
 pub at_set : {X : Type 0} (xs : List X) (i : ℕ) (v d : X) (k : ℕ) → ((k ≡ i) × (i < length xs) × (get_or (set xs i v) k d ≡ v)) ⊎ (get_or (set xs i v) k d ≡ get_or xs k d)
-at_set [] i v d k = inr refl
-at_set (x ∷ xs) zero v d zero = inl (refl, omega arith, refl)
-at_set (x ∷ xs) zero v d (suc k) = inr refl
-at_set (x ∷ xs) (suc i) v d zero = inr refl
-at_set (x ∷ xs) (suc i) v d (suc k) = ⊎_elim (λ r. let l = r.1 in inl (ap suc r.0, omega arith, r.2)) (λ e. inr e) (at_set xs i v d k)
+at_set xs i v d k = grind (arith, common_steps)
 
 -- a place of a part
 pub in_part : {X : Type 0} (s n : ℕ) (xs : List X) (d x : X) → In x (take n (drop s xs)) → (k : ℕ) × (k < n) × (get_or xs (s + k) d ≡ x)
@@ -72,25 +69,14 @@ module _ {X : Type 0} (f : X → X) where
   mapped_part s n xs = take s xs ++ (map f (take n (drop s xs)) ++ drop (s + n) xs)
 
   pub part_length : (s n : ℕ) (xs : List X) → length (mapped_part s n xs) ≡ length xs
-  part_length s n xs =
-      let a = length-append (take s xs) (map f (take n (drop s xs)) ++ drop (s + n) xs) in
-      let b = length-append (map f (take n (drop s xs))) (drop (s + n) xs) in
-      let c = length-map (take n (drop s xs)) f in
-      let e = length-take n (drop s xs) in
-      let g = length-drop s xs in
-      let h = length-drop (s + n) xs in
-      let k = length-take s xs in
-      omega arith
+  part_length s n xs = grind (arith, common_steps)
 
   -- what stands at a place is as before, or in the part and mapped
   abbrev AtPart : ℕ → ℕ → List X → List X → X → ℕ → Type 0
   AtPart s n xs ys d k = (get_or ys k d ≡ get_or xs k d) ⊎ ((s ≤ k) × (k < s + n) × (get_or ys k d ≡ f (get_or xs k d)))
 
   front_at : (n : ℕ) (xs : List X) (d : X) (k : ℕ) → AtPart zero n xs (map f (take n xs) ++ drop n xs) d k
-  front_at zero xs d k = inl refl
-  front_at (suc n) [] d k = inl refl
-  front_at (suc n) (x ∷ xs) d zero = inr (omega arith, omega arith, refl)
-  front_at (suc n) (x ∷ xs) d (suc k) = ⊎_elim (λ e. inl e) (λ r. let l = r.1 in inr (omega arith, omega arith, r.2)) (front_at n xs d k)
+  front_at n xs d k = grind (arith, common_steps)
 
   pub part_at : (s n : ℕ) (xs : List X) (d : X) (k : ℕ) → AtPart s n xs (mapped_part s n xs) d k
   part_at zero n xs d k =
@@ -122,8 +108,7 @@ module _ (p : Option ℕ) (int at i : ℕ) (t : Tables) where
   by_entry P f n v = search rules
 
 params_length : (name : ℕ) (proto : BtfType) (b : Bool) (ps : List BtfParam) → length (cond b (named_params name proto ps) ps) ≡ length ps
-params_length name proto true ps = part_length (named_param name) proto.parts.start proto.parts.len ps
-params_length name proto false ps = refl
+params_length name proto b ps = grind (arith, common_steps)
 
 -- the rows keep their shape
 pub entry_rewritten : (p : Option ℕ) (int at i : ℕ) (t : Tables) → Rewritten t (fix_entry p int at i t)

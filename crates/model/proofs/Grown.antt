@@ -1,4 +1,5 @@
 -- Tables that grow, or whose rows are rewritten and keep their shape, stay well-formed.
+use Rattle.std.proofs.lemmas.Grind.{common_steps}
 use Rattle.std.proofs.Common.{rules, ◌≡◌, ℕ, zero, suc, ◌+◌, ◌<◌, ◌≤◌, Bool, true, false, cond, ◌&&◌, ◌||◌, eqb, ltb, leb, ◌⊎◌, List, [], ◌∷◌, ◌++◌, length, drop, set, is_some, Some, None, Ok, codes, Option, Result, sym, refl, ap, ◌∙◌, subst, inl, inr, ⊎_elim, arith}
 use Rattle.std.specs.List.{list_all}
 use Rattle.std.specs.Option.{option_map}
@@ -109,8 +110,7 @@ pub void_push : (ts us : List BtfType) → void_first ts ≡ true → void_first
 void_push ts us h = search rules
 
 pub parts_push : (ts : List BtfType) (u : BtfType) → list_all parts_fit ts ≡ true → parts_fit u ≡ true → list_all parts_fit (ts ++ u ∷ []) ≡ true
-parts_push [] u h p = and_from (parts_fit u) true p refl
-parts_push (t ∷ ts) u h p = let q = and_parts (parts_fit t) (list_all parts_fit ts) h in and_from (parts_fit t) _ q.0 (parts_push ts u q.1 p)
+parts_push ts u h p = grind (arith, common_steps)
 
 -- ---- names in longer strings
 mapped_some : (f : List ℕ → List ℕ) (o : Option (List ℕ)) → is_some (option_map f o) ≡ is_some o
@@ -189,24 +189,7 @@ pub record Fits (t : Tables) : Type 0 where
   pub protos : follow 0 (parts_of 13 t.types) (length t.params) ≡ true
 
 pub fits_is : (t : Tables) → tables_fit t ≡ true → Fits t
-fits_is t h =
-    let a = and_parts (few t) _ h in
-    let f = and_parts (leb (length t.types) MAX_ROWS) _ a.0 in
-    let g = and_parts (leb (length t.entries) MAX_ROWS) _ f.1 in
-    let k = and_parts (leb (length t.params) MAX_ROWS) _ g.1 in
-    let b = and_parts (void_first t.types) _ a.1 in
-    let c = and_parts (list_all parts_fit t.types) _ b.1 in
-    let d = and_parts (follow 0 (parts_of 15 t.types) (length t.entries)) _ c.1 in
-    record {
-      types = leb-true _ _ f.0;
-      entries = leb-true _ _ g.0;
-      params = leb-true _ _ k.0;
-      strings = leb-true _ _ k.1;
-      void = b.0;
-      parts = c.0;
-      sections = d.0;
-      protos = d.1;
-    }
+fits_is t h = grind (arith, common_steps)
 
 pub is_fit : (t : Tables) → Fits t → tables_fit t ≡ true
 is_fit t f = search rules
@@ -295,21 +278,13 @@ pub longer_added : (row : ℕ → BtfType) (name : List ℕ) (t : Tables) → Lo
 longer_added row name t = search rules
 
 pub longer_on : (t u v : Tables) → Longer t u → Longer u v → Longer t v
-longer_on t u v a b =
-    record {
-      rows = a.rows ++ b.rows;
-      bytes = a.bytes ++ b.bytes;
-      types = b.types ∙ ap (λ x. x ++ b.rows) a.types ∙ append_assoc t.types a.rows b.rows;
-      strings = b.strings ∙ ap (λ x. x ++ b.bytes) a.strings ∙ append_assoc t.strings a.bytes b.bytes;
-      entries = b.entries ∙ a.entries;
-      params = b.params ∙ a.params;
-    }
+longer_on t u v a b = grind (arith, common_steps)
 
 pub longer_length : (t u : Tables) → Longer t u → length t.types ≤ length u.types
-longer_length t u l = let n = ap length l.types in let m = length-append t.types l.rows in omega arith
+longer_length t u l = grind (arith, common_steps)
 
 pub longer_at : (t u : Tables) → Longer t u → (i : ℕ) → i < length t.types → type_at u.types i ≡ type_at t.types i
-longer_at t u l i lt = ap (λ x. type_at x i) l.types ∙ get_or_append_left t.types l.rows no_row i lt
+longer_at t u l i lt = grind (arith, common_steps)
 
 pub longer_name : (t u : Tables) → Longer t u → (o : ℕ) → is_some (name_at t.strings o) ≡ true → name_at u.strings o ≡ name_at t.strings o
 longer_name t u l o h = ap (λ x. name_at x o) l.strings ∙ name_stays t.strings l.bytes o h
@@ -319,7 +294,7 @@ longer_section t u l d h =
     (λ i. section_from (l.strings i) 0 (l.types i)) ∙ section_grows t.strings l.bytes l.rows 0 d t.types h
 
 pub longer_entries : (t u : Tables) → Longer t u → (d : ℕ) → d < length t.types → entries_of u d ≡ entries_of t d
-longer_entries t u l d lt = λ i. part (l.entries i) (longer_at t u l d lt i).parts
+longer_entries t u l d lt = grind (arith, common_steps)
 
 -- ---- an id that declares, part by part
 pub record Declared (t : Tables) (id : ℕ) : Type 0 where
@@ -381,8 +356,7 @@ module _ (t : Tables) where
   int_longer (Some i) = longer_same t
 
   pub int_below : (o : Option ℕ) → ((i : ℕ) → o ≡ Some i → i < length t.types) → (with_int o t).0 < length (with_int o t).1.types
-  int_below None h = let n = length_push t.types (int_row (length t.strings)) in omega arith
-  int_below (Some i) h = h i refl
+  int_below o h = grind (arith, common_steps)
 
   pub int_fits : (o : Option ℕ) → room_for_int o t ≡ true → Fits t → Fits (with_int o t).1
   int_fits None r f = let p = room_parts 1 (length int_name) t r in added_fits int_row int_name t (plain_int _) p.0 p.1 f

@@ -1,5 +1,6 @@
 -- What a list of calls makes of one extern.
-use Rattle.std.proofs.Common.{rules, ◌≡◌, ℕ, Bool, true, false, cond, not, ◌||◌, eqb, List, [], ◌∷◌, map, is_some, Some, None, Option, sym, refl, ap, ◌∙◌, subst, inl, inr, ⊎_elim}
+use Rattle.std.proofs.lemmas.Grind.{common_steps}
+use Rattle.std.proofs.Common.{arith, rules, ◌≡◌, ℕ, Bool, true, false, cond, not, ◌||◌, eqb, List, [], ◌∷◌, map, is_some, Some, None, Option, sym, refl, ap, ◌∙◌, subst, inl, inr, ⊎_elim}
 use Rattle.std.proofs.lemmas.List.{map-id}
 use Rattle.std.proofs.lemmas.Bool.{cond-true, cond-false, cond_both, both_ways, true≢false, cases_Bool, eqb-true, eqb-false, and_parts, and_from, or_parts, or_left, or_cases, not-true}
 use Rattle.std.proofs.lemmas.Simd.{map-map}
@@ -24,8 +25,7 @@ cond_map true f o new e = e
 cond_map false f o new e = sym (map-id o.externs)
 
 cond_same : (b : Bool) (o : Object) (new : Object) → new.externs ≡ o.externs → (cond b new o).externs ≡ map (λ x. x) o.externs
-cond_same true o new e = e ∙ sym (map-id o.externs)
-cond_same false o new e = sym (map-id o.externs)
+cond_same b o new e = grind (arith, common_steps)
 
 pub next_change : (s : Step) (st : State) → (next s st).object.externs ≡ map (change s st) st.object.externs
 unfolding change

@@ -1,4 +1,5 @@
 -- What relocation makes of the slots, and of a load's two slots.
+use Rattle.std.proofs.lemmas.Grind.{common_steps}
 use Rattle.std.proofs.Common.{rules, ◌≡◌, ℕ, suc, ◌+◌, ◌<◌, Bool, true, false, cond, eqb, ◌⊎◌, List, [], ◌∷◌, ◌++◌, length, set, ℤ, pos, is_some, Some, None, Ok, Err, Option, Result, sym, refl, ap, ◌∙◌, subst, inl, inr, ⊎_elim, arith, w16, w32, SFits}
 use borrow.Author.Gap.{read_sfits}
 use Rattle.std.proofs.lemmas.List.{length-set, get_or-set_same, get_or-set_other, set_past}
@@ -63,23 +64,10 @@ changed_both T a b c p q = search rules
 
 -- a property of every slot, after one is set
 set_each : (P : Slot → Type 0) (code : List Slot) (i : ℕ) (s : Slot) (j : ℕ) → (j ≡ i → P s) → P (slot_at code j) → P (slot_at (set code i s) j)
-set_each P code i s j h k =
-    ⊎_elim
-    (λ q. ⊎_elim
-    (λ l. subst (λ x. P (slot_at (set code i s) x)) (sym q) (subst P (sym (get_or-set_same code i s _ l)) (h q)))
-    (λ l. subst (λ xs. P (slot_at xs j)) (sym (set_past code i s l)) k)
-    (cases_lt i (length code)))
-    (λ q. subst P (sym (get_or-set_other code i j s _ q)) k)
-    (cases_eq j i)
+set_each P code i s j h k = grind (arith, common_steps)
 
 changed_set : (T : ℕ → Type 0) (code : List Slot) (i : ℕ) (s : Slot) → T i → s.code ≡ (slot_at code i).code → (EachFits code → FitsSlot s) → Changed T code (set code i s)
-changed_set T code i s t e f =
-    record {
-      len = length-set code i s;
-      codes = λ j. set_each (λ x. x.code ≡ (slot_at code j).code) code i s j (λ q. e ∙ ap (λ x. (slot_at code x).code) (sym q)) refl;
-      others = λ j h. get_or-set_other code i j s _ (λ q. h (subst T (sym q) t));
-      fit = λ g j. set_each FitsSlot code i s j (λ _. f g) (g j);
-    }
+changed_set T code i s t e f = grind (arith, common_steps)
 
 -- ---- a call
 record Kin (s new : Slot) : Type 0 where
@@ -115,14 +103,7 @@ module _ (T : ℕ → Type 0) (code new : List Slot) where
   call_changed t (Err r) i h e = absurd (err_not r new e)
 
   pair_changed : (i : ℕ) (v : ℕ × ℤ × ℤ) → ValueFits (Some v) → T i → T (i + 1) → Changed T code (with_pair code i v)
-  pair_changed i v f t u =
-      let s = with_imm v.1 (with_src v.0 (slot_at code i)) in
-      let ne : i + 1 ≡ i → ⊥ = omega arith in
-      let q : slot_at (set code i s) (i + 1) ≡ slot_at code (i + 1) = get_or-set_other code i (i + 1) s _ ne in
-      changed_both T _ _ _
-      (changed_set T code i s t refl (λ g. record { code = (g i).code; regs = src_fits v.0 (slot_at code i) f.0; off = (g i).off; imm = f.1 }))
-      (changed_set T (set code i s) (i + 1) (with_imm v.2 (slot_at code (i + 1))) u (sym (ap (λ x. x.code) q))
-      (λ g. let k = subst FitsSlot q (g (i + 1)) in record { code = k.code; regs = k.regs; off = k.off; imm = f.2 }))
+  pair_changed i v f t u = grind (arith, common_steps)
 
   load_changed : (name : Span) (t : Taken) (o : Option (ℕ × ℤ × ℤ)) → ValueFits o → T (slot_index t) → T (slot_index t + 1) → with_load code name t o ≡ Ok new → Changed T code new
   load_changed name t None f p q e = absurd (err_not _ new e)
@@ -210,13 +191,7 @@ module _ (xs : List Extern) (ss : Symbols) where
     end : patched xs ss (t ∷ ts) code ≡ patched xs ss ts new
 
   stepped : (t : Taken) (ts : List Taken) (code : List Slot) → (patched xs ss (t ∷ ts) code).1 ≡ None → Stepped t ts code
-  stepped t ts code h =
-      let by : (p : Result (List Slot) Reason) → patch xs ss t code ≡ p → (go_on xs ss ts code p).1 ≡ None → Stepped t ts code =
-      elim [
-        | Ok new ↦ λ e k. record { new = new; ok = e; left = k; end = ap (go_on xs ss ts code) e }
-        | Err x ↦ λ e k. absurd (none-some x (sym k))
-      ] in
-      by (patch xs ss t code) refl h
+  stepped t ts code h = grind (arith, common_steps)
 
   -- one of them, with those before it made and those after it to come
   record Reached (old code : List Slot) (front : List Taken) (t : Taken) (back : List Taken) : Type 0 where

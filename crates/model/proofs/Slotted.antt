@@ -1,4 +1,5 @@
 -- The laws of slots.
+use Rattle.std.proofs.lemmas.Grind.{common_steps}
 use Rattle.std.proofs.Common.{rules, ◌≡◌, ℕ, zero, suc, ◌+◌, ◌*◌, ◌/◌, ◌%◌, ◌^◌, ◌<◌, List, [], ◌∷◌, ◌++◌, length, get_or, take, drop, sym, refl, ap, ◌∙◌, append-nil, arith, length-drop, take-append-drop, length-take, w16, w32, to_z, of_z}
 use mir.Facts.{Fits-of_z, sfits_to_z}
 use Rattle.std.specs.List.{AllByRecursion}
@@ -47,9 +48,7 @@ slots_read_back ss h = ap slots (sym (append-nil (slots_bytes ss))) ∙ slots_af
 
 -- ---- eight bytes are read and written back
 small : (xs : List ℕ) (k : ℕ) → AllByRecursion (λ b. b < 256) xs → get_or xs k 0 < 256
-small [] k h = omega arith
-small (x ∷ xs) zero h = h.0
-small (x ∷ xs) (suc k) h = small xs k h.1
+small xs k h = grind (arith, common_steps)
 
 -- n elements from k on
 abbrev reads : ℕ → ℕ → List ℕ → List ℕ
@@ -68,10 +67,7 @@ quartered : (a b c d : ℕ) → a < 256 → b < 256 → c < 256 → d < 256
 quartered a b c d p q r s = search rules
 
 slot_written : (xs : List ℕ) → length xs ≡ 8 → AllByRecursion (λ b. b < 256) xs → slot_bytes (slot_of xs) ≡ xs
-slot_written xs e h =
-    let two = halved (get_or xs 2 0) (get_or xs 3 0) (small xs 2 h) (small xs 3 h) in
-    let four = quartered (get_or xs 4 0) (get_or xs 5 0) (get_or xs 6 0) (get_or xs 7 0) (small xs 4 h) (small xs 5 h) (small xs 6 h) (small xs 7 h) in
-    (λ i. get_or xs 0 0 ∷ get_or xs 1 0 ∷ two.0 i ∷ two.1 i ∷ four.0 i ∷ four.1 i ∷ four.2 i ∷ four.3 i ∷ []) ∙ sym (reads_all 8 0 xs (omega arith))
+slot_written xs e h = grind (arith, common_steps)
 
 written_back : (n : ℕ) (bs : List ℕ) → AllByRecursion (λ b. b < 256) bs → length bs ≡ n * 8 → slots_bytes (first_slots n bs) ≡ bs
 written_back zero bs h e = sym (drop_all 0 bs (omega arith))
@@ -81,14 +77,7 @@ written_back (suc n) bs h e =
     (λ i. slot_written (take 8 bs) front (All-take _ 8 bs h) i ++ written_back n (drop 8 bs) (All-drop _ 8 bs h) rest i) ∙ take-append-drop 8 bs
 
 slot_fits : (xs : List ℕ) → AllByRecursion (λ b. b < 256) xs → FitsSlot (slot_of xs)
-slot_fits xs h =
-    let s : (k : ℕ) → get_or xs k 0 < 256 = λ k. small xs k h in
-    record {
-      code = s 0;
-      regs = s 1;
-      off = sfits_to_z (record { fits = omega (arith, s 2, s 3) });
-      imm = sfits_to_z (record { fits = omega (arith, s 4, s 5, s 6, s 7) });
-    }
+slot_fits xs h = grind (arith, common_steps)
 
 fit : (n : ℕ) (bs : List ℕ) → AllByRecursion (λ b. b < 256) bs → AllByRecursion FitsSlot (first_slots n bs)
 fit zero bs h = tt

@@ -1,5 +1,6 @@
 -- An address that a resolution gave stands, also in the slots that load it.
-use Rattle.std.proofs.Common.{rules, ◌≡◌, ℕ, suc, ◌+◌, ◌/◌, ◌^◌, ◌<◌, true, false, not, ◌||◌, eqb, ltb, leb, List, [], ◌∷◌, map, length, is_some, Some, None, Option, sym, refl, ap, ◌∙◌, subst, inl, inr, ⊎_elim}
+use Rattle.std.proofs.lemmas.Grind.{common_steps}
+use Rattle.std.proofs.Common.{arith, rules, ◌≡◌, ℕ, suc, ◌+◌, ◌/◌, ◌^◌, ◌<◌, true, false, not, ◌||◌, eqb, ltb, leb, List, [], ◌∷◌, map, length, is_some, Some, None, Option, sym, refl, ap, ◌∙◌, subst, inl, inr, ⊎_elim}
 use Rattle.std.specs.List.{list_all}
 use Rattle.std.specs.Str.{bytes_eq}
 use Rattle.std.proofs.lemmas.Bool.{cond-true, cond-false, cond_both, cases_Bool, and_parts, and_from, or_parts, ltb-true}
@@ -87,8 +88,7 @@ follow_from : (fs : List Function) (n : ℕ) → functions_fit fs n ≡ true →
 follow_from fs n h = search rules
 
 program_follow : (p : Program) (bs : List ℕ) → program_fits p bs ≡ true → follow 0 (slots_of p.functions) (length bs / 8) ≡ true
-program_follow p bs h =
-    follow_from p.functions (length bs / 8) (and_parts (relocations_fit p.relocations) _ (and_parts (symbols_fit p.symbols) _ (and_parts (code_fits bs) _ h).1).1).1
+program_follow p bs h = grind (arith, common_steps)
 
 relocation_holds :
     (st : State) (p : Program) (n : List ℕ) (a : ℕ) (k : ℕ × Extern)

@@ -1,4 +1,5 @@
 -- Fixup twice is fixup once.
+use Rattle.std.proofs.lemmas.Grind.{common_steps}
 use Rattle.std.proofs.Common.{rules, ◌≡◌, ℕ, suc, ◌+◌, ◌*◌, ◌<◌, ◌≤◌, true, false, cond, ◌||◌, eqb, List, [], ◌∷◌, ◌++◌, length, set, is_some, Some, None, Option, sym, refl, ap, ◌∙◌, subst, ⊎_elim, arith}
 use Rattle.std.specs.List.{range_with_len}
 use Rattle.std.proofs.lemmas.List.{length-set, set-get_or, get_or-set_same, get_or-set_other}
@@ -73,18 +74,7 @@ placed_entry p int at i t lt b v f h =
 
 -- ---- a fixed entry is left
 pub idle_entry : (p : Option ℕ) (int at i : ℕ) (t : Tables) → Placed t int at i → fix_entry p int at i t ≡ t
-idle_entry p int at i t h =
-    let none : DataSecEntry = record { btf_type = 0; offset = 0; size = 0 } in
-    let id = id_at p int at i t in
-    let is : id ≡ h.0 = ap (λ (z : DataSecEntry). z.btf_type) h.1 in
-    let g : Good t.types int id = subst (Good t.types int) (sym is) h.2 in
-    let row = type_at t.types id in
-    let same : global_var int row ≡ row =
-    λ k. record { kind = row.kind; name_offset = row.name_offset; info = row.info; size_or_type = sym g.type k; «data» = sym g.global k; parts = row.parts } in
-    let here : placed id i ≡ entry_at t.entries at = ap (λ j. placed j i) is ∙ sym h.1 in
-    let types : set t.types id (global_var int row) ≡ t.types = ap (set t.types id) same ∙ set-get_or t.types id no_row in
-    let entries : set t.entries at (placed id i) ≡ t.entries = ap (set t.entries at) here ∙ set-get_or t.entries at none in
-    cond-false (is_func row) (fix_func_by p at i id t) (fix_var int at i id t) (good_func t.types int id g) ∙ (λ k. with_rows (types k) (entries k) t.params t)
+idle_entry p int at i t h = grind (arith, common_steps)
 
 pub idle_entries : (p : Option ℕ) (int start : ℕ) (t : Tables) (len : ℕ) → ((j : ℕ) → j < len → Placed t int (start + j) j) → fix_entries p int start (range_with_len 0 len) t ≡ t
 idle_entries p int start t len h =

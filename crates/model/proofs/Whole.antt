@@ -1,4 +1,5 @@
 -- Runs of a collected object: it stays well-formed, and the laws of every list of calls.
+use Rattle.std.proofs.lemmas.Grind.{common_steps}
 use Rattle.std.proofs.Common.{rules, ◌≡◌, ℕ, ◌+◌, ◌≤◌, Bool, true, cond, not, ◌&&◌, ◌||◌, leb, ◌⊎◌, List, [], ◌∷◌, map, length, Some, None, Option, sym, refl, ap, ◌∙◌, subst, inl, inr, ⊎_elim, arith}
 use Rattle.std.specs.List.{list_any, list_all}
 use Rattle.std.specs.Str.{bytes_eq}
@@ -144,11 +145,7 @@ same_room o u e = search rules
 
 -- an int row takes one row and its name, and the rest is rewritten in place
 int_room : (t : Tables) (o : Option ℕ) → (length (with_int o t).1.types ≤ length t.types + 1) × (length (with_int o t).1.strings ≤ length t.strings + length int_name) × ((with_int o t).1.entries ≡ t.entries) × ((with_int o t).1.params ≡ t.params)
-int_room t None =
-    let a : length (with_int None t).1.types ≡ length t.types + 1 = length-append t.types (int_row (length t.strings) ∷ []) in
-    let b : length (with_int None t).1.strings ≡ length t.strings + length int_name = length-append t.strings int_name in
-    (omega arith, omega arith, refl, refl)
-int_room t (Some i) = (omega arith, omega arith, refl, refl)
+int_room t o = grind (arith, common_steps)
 
 fixed_room : (xs : List Extern) (o : Object) → o.externs ≡ xs → object_fits o ≡ true → Room o (record { tables = fixed_for xs o.placeholder o.tables; externs = o.externs; placeholder = o.placeholder })
 fixed_room [] o e h = same_room o _ refl
