@@ -73,21 +73,11 @@ module _ (t : Tables) (ss : Symbols) where
   -- ---- from the grant to the conditions
   room_if : (b : Bool) (n : ℕ) (es : List DataSecEntry) → has_func t.types n es ≡ Ok b → room_for_func b t ≡ true
       → (e : DataSecEntry) → In e es → is_func (row e) ≡ true → room_for_placeholder (first_int t.types) t ≡ true
-  room_if true n es h r e i f = r
-  room_if false n es h r e i f = absurd (true≢false (sym f ∙ no_func t.types n es h e i))
+  room_if b n es h r e i f = search (rules, true≢false, no_func)
 
   module _ (o : Object) where
     section_passed : (c : Passed t ss o) → Section t ss c.section c.rows
-    section_passed c =
-        let n = (type_at t.types c.section).parts.start in
-        let es = entries_of t c.section in
-        record {
-          found = c.found;
-          declared = each_turn (entry_read t ss) (Declares t ss) (λ m e x. entry_is t ss e m x) n es c.rows c.read;
-          distinct = names_apart [] n c.rows c.apart;
-          few = leb-true _ _ c.few;
-          room = room_if c.func n es c.has c.room;
-        }
+    section_passed c = search (rules, each_turn, entry_is, names_apart, leb-true, room_if)
 
     externs_passed : (c : Passed t ss o) → c.rows ≡ o.externs
     externs_passed c = search rules
@@ -95,14 +85,12 @@ module _ (t : Tables) (ss : Symbols) where
     -- the tables are those of the object made, with a Func or without
     made_plain : (b : Bool) (xs : List Extern) (n : ℕ) (es : List DataSecEntry) → has_func t.types n es ≡ Ok b → made b xs t ≡ o
         → ((e : DataSecEntry) → In e es → is_func (row e) ≡ false) → (o.tables ≡ t) × (o.placeholder ≡ None)
-    made_plain false xs n es h q f = (ap (λ (x : Object). x.tables) (sym q), ap (λ (x : Object). x.placeholder) (sym q))
-    made_plain true xs n es h q f = let k = some_func t.types n es h in absurd (true≢false (sym k.2 ∙ f k.0 k.1))
+    made_plain b xs n es h q f = search (rules, some_func, true≢false)
 
     made_placed : (b : Bool) (xs : List Extern) (n : ℕ) (es : List DataSecEntry) (e : DataSecEntry) → has_func t.types n es ≡ Ok b → made b xs t ≡ o → In e es
         → is_func (row e) ≡ true
         → (o.tables ≡ (with_placeholder (with_int (first_int t.types) t)).1) × (o.placeholder ≡ Some (with_placeholder (with_int (first_int t.types) t)).0)
-    made_placed true xs n es e h q i f = (ap (λ (x : Object). x.tables) (sym q), ap (λ (x : Object). x.placeholder) (sym q))
-    made_placed false xs n es e h q i f = absurd (true≢false (sym f ∙ no_func t.types n es h e i))
+    made_placed b xs n es e h q i f = search (rules, true≢false, no_func)
 
 -- ---- the whole
 not_both : (t : Tables) (d : ℕ) → section_of t ≡ Ok None → section_of t ≡ Ok (Some d) → ⊥

@@ -59,14 +59,7 @@ chain_below n ts id target h = search rules
 
 -- the row of an entry that declares
 pub entry_declared : (t : Tables) (ss : Symbols) (e : DataSecEntry) (x : Extern) → Declares t ss e x → Declared t e.btf_type
-entry_declared t ss e x d =
-    let row = type_at t.types e.btf_type in
-    record {
-      below = d.row;
-      kind = ⊎_elim (or_left (is_func row) (is_var row)) (or_right (is_func row) (is_var row)) d.kind;
-      name = ap is_some d.name;
-      type = chain_below 32 t.types row.size_or_type d.end d.chain;
-    }
+entry_declared t ss e x d = search (rules, or_left, or_right, chain_below)
 
 module _ (t : Tables) (ss : Symbols) (e : DataSecEntry) (n : ℕ) (x : Extern) where
   abbrev row : BtfType
@@ -99,23 +92,17 @@ module _ (t : Tables) (ss : Symbols) (e : DataSecEntry) (n : ℕ) (x : Extern) w
 
     symbol_is : (name : List ℕ) (o : Option (ℕ × Symbol)) → name_at t.strings row.name_offset ≡ Some name → symbol_named ss name ≡ o
         → symbol_read t.types n e.btf_type row name o ≡ Ok x → Declares t ss e x
-    symbol_is name None s m h = absurd (err_not _ _ h)
-    symbol_is name (Some w) s m h = chain_is name w (resolve_type t.types row.size_or_type) s m refl h
+    symbol_is name o s m h = search (rules, err_not, chain_is)
 
     name_is : (o : Option (List ℕ)) → name_at t.strings row.name_offset ≡ o → name_read t.types ss n e.btf_type row o ≡ Ok x → Declares t ss e x
-    name_is None s h = absurd (err_not _ _ h)
-    name_is (Some name) s h = symbol_is name (symbol_named ss name) s refl h
+    name_is o s h = search (rules, err_not, symbol_is)
 
   row_is : e.btf_type < length t.types → row_read t ss n e.btf_type row ≡ Ok x → Declares t ss e x
-  row_is below h =
-      ⊎_elim (λ k. name_is below k (name_at t.strings row.name_offset) refl (sym (cond-true (is_func row || is_var row) _ _ k) ∙ h))
-      (λ k. absurd (err_not _ _ (sym (cond-false (is_func row || is_var row) _ _ k) ∙ h))) (cases_Bool (is_func row || is_var row))
+  row_is below h = search (rules, name_is, err_not)
 
   -- an entry that reads declares what it reads as
   pub entry_is : entry_read t ss n e ≡ Ok x → Declares t ss e x
-  entry_is h =
-      ⊎_elim (λ b. row_is (ltb-true _ _ b) (sym (cond-true (ltb e.btf_type (length t.types)) _ _ b) ∙ h))
-      (λ b. absurd (err_not _ _ (sym (cond-false (ltb e.btf_type (length t.types)) _ _ b) ∙ h))) (cases_Bool (ltb e.btf_type (length t.types)))
+  entry_is h = search (rules, row_is, ltb-true, err_not)
 
 -- ---- a Func among the entries
 pub some_func : (ts : List BtfType) (n : ℕ) (es : List DataSecEntry) → has_func ts n es ≡ Ok true → (e : DataSecEntry) × In e es × (is_func (type_at ts e.btf_type) ≡ true)
@@ -235,7 +222,7 @@ module _ (t : Tables) (ss : Symbols) (o : Object) (c : Passed t ss o) where
   places = entries_of t c.section
 
   pub passed_read : (x : Extern) → In x c.rows → (e : DataSecEntry) × In e places × Declares t ss e x
-  passed_read x i = let r = each_in (entry_read t ss) _ places c.rows c.read x i in (r.1, r.2, entry_is t ss r.1 r.0 x r.3)
+  passed_read x i = search (rules, each_in, entry_is)
 
   place_declared : (e : DataSecEntry) → In e places → Declared t e.btf_type
   place_declared e i = let r = in_each (entry_read t ss) _ places c.rows c.read e i in entry_declared t ss e r.1 (entry_is t ss e r.0 r.1 r.2)
@@ -243,8 +230,7 @@ module _ (t : Tables) (ss : Symbols) (o : Object) (c : Passed t ss o) where
   -- a Func implies a placeholder
   func_placed : (func : Bool) → has_func t.types (type_at t.types c.section).parts.start places ≡ Ok func
       → (e : DataSecEntry) → In e places → is_func (type_at t.types e.btf_type) ≡ true → is_some (made func c.rows t).placeholder ≡ true
-  func_placed true h e i f = refl
-  func_placed false h e i f = absurd (true≢false (sym f ∙ no_func t.types _ places h e i))
+  func_placed func h e i f = search (rules, true≢false, no_func)
 
   new_collected : Collected new
   new_collected =

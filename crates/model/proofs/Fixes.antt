@@ -112,69 +112,21 @@ params_length name proto b ps = grind (arith, common_steps)
 
 -- the rows keep their shape
 pub entry_rewritten : (p : Option ℕ) (int at i : ℕ) (t : Tables) → Rewritten t (fix_entry p int at i t)
-entry_rewritten p int at i t =
-    let id = id_at p int at i t in
-    let row = row_at p int at i t in
-    by_entry p int at i t (Rewritten t)
-    (λ q s e.
-    record {
-      types = alike_set t.types id (global_func row) (record { kind = refl; name = refl; parts = refl });
-      entries = length-set t.entries at (placed q i);
-      params = params_length (type_at t.types q).name_offset (type_at t.types row.size_or_type) (is_func_proto (type_at t.types row.size_or_type)) t.params;
-      strings = refl;
-      header = refl;
-    })
-    (λ s e. rewritten_same t)
-    (λ e.
-    record {
-      types = alike_set t.types id (global_var int row) (record { kind = refl; name = refl; parts = refl });
-      entries = length-set t.entries at (placed id i);
-      params = refl;
-      strings = refl;
-      header = refl;
-    })
+entry_rewritten p int at i t = search (rules, by_entry, alike_set, length-set, params_length, rewritten_same)
 
 -- a row has its type, or becomes of the int row
 pub entry_size : (p : Option ℕ) (int at i : ℕ) (t : Tables) (x : ℕ)
     → ((type_at (fix_entry p int at i t).types x).size_or_type ≡ (type_at t.types x).size_or_type) ⊎ ((type_at (fix_entry p int at i t).types x).size_or_type ≡ int)
-entry_size p int at i t x =
-    let id = id_at p int at i t in
-    let row = row_at p int at i t in
-    by_entry p int at i t (λ u. ((type_at u.types x).size_or_type ≡ (type_at t.types x).size_or_type) ⊎ ((type_at u.types x).size_or_type ≡ int))
-    (λ q s e.
-    inl (⊎_elim (λ r. ap (λ (z : BtfType). z.size_or_type) r.2 ∙ ap (λ j. (type_at t.types j).size_or_type) (sym r.0)) (λ r. ap (λ (z : BtfType). z.size_or_type) r)
-    (at_set t.types id (global_func row) no_row x)))
-    (λ s e. inl refl)
-    (λ e.
-    ⊎_elim (λ r. inr (ap (λ (z : BtfType). z.size_or_type) r.2)) (λ r. inl (ap (λ (z : BtfType). z.size_or_type) r)) (at_set t.types id (global_var int row) no_row x))
+entry_size p int at i t x = search (rules, by_entry, at_set)
 
 -- a Func keeps its type
 pub entry_func : (p : Option ℕ) (int at i : ℕ) (t : Tables) (x : ℕ) → is_func (type_at t.types x) ≡ true
     → (type_at (fix_entry p int at i t).types x).size_or_type ≡ (type_at t.types x).size_or_type
-entry_func p int at i t x h =
-    let id = id_at p int at i t in
-    let row = row_at p int at i t in
-    by_entry p int at i t (λ u. (type_at u.types x).size_or_type ≡ (type_at t.types x).size_or_type)
-    (λ q s e.
-    ⊎_elim (λ r. ap (λ (z : BtfType). z.size_or_type) r.2 ∙ ap (λ j. (type_at t.types j).size_or_type) (sym r.0)) (λ r. ap (λ (z : BtfType). z.size_or_type) r)
-    (at_set t.types id (global_func row) no_row x))
-    (λ s e. refl)
-    (λ e.
-    ⊎_elim (λ r. absurd (false≢true (sym e ∙ ap (λ j. is_func (type_at t.types j)) (sym r.0) ∙ h))) (λ r. ap (λ (z : BtfType). z.size_or_type) r)
-    (at_set t.types id (global_var int row) no_row x))
+entry_func p int at i t x h = search (rules, by_entry, at_set, false≢true)
 
 -- what declares does so in rewritten tables where its type is a row
 pub rewritten_declared : (t u : Tables) → Rewritten t u → (x : ℕ) → Declared t x → (type_at u.types x).size_or_type < length t.types → Declared u x
-rewritten_declared t u r x d lt =
-    let n = alike_length t.types u.types r.types in
-    let s = alike_at t.types u.types r.types x in
-    let b = d.below in
-    record {
-      below = omega arith;
-      kind = ap (λ k. eqb (kind_number k) 12 || eqb (kind_number k) 14) s.kind ∙ d.kind;
-      name = (λ j. is_some (name_at (r.strings j) (s.name j))) ∙ d.name;
-      type = omega arith;
-    }
+rewritten_declared t u r x d lt = search (rules, alike_length, alike_at)
 
 pub entry_declared : (p : Option ℕ) (int at i : ℕ) (t : Tables) → int < length t.types → (x : ℕ) → Declared t x → Declared (fix_entry p int at i t) x
 entry_declared p int at i t lt x d =
@@ -185,16 +137,7 @@ entry_declared p int at i t lt x d =
 -- an entry is as before, or stands for the same id, or for the placeholder
 pub entry_id : (p : Option ℕ) (int at i : ℕ) (t : Tables) (Q : ℕ → Type 0) (m : ℕ)
     → ((q : ℕ) → p ≡ Some q → Q q) → Q (entry_at t.entries m).btf_type → Q (entry_at (fix_entry p int at i t).entries m).btf_type
-entry_id p int at i t Q m f h =
-    let id = id_at p int at i t in
-    by_entry p int at i t (λ u. Q (entry_at u.entries m).btf_type)
-    (λ q s e.
-    ⊎_elim (λ r. subst (λ (z : DataSecEntry). Q z.btf_type) (sym r.2) (f q s)) (λ r. subst (λ (z : DataSecEntry). Q z.btf_type) (sym r) h)
-    (at_set t.entries at (placed q i) (record { btf_type = 0; offset = 0; size = 0 }) m))
-    (λ s e. h)
-    (λ e.
-    ⊎_elim (λ r. subst (λ (z : DataSecEntry). Q z.btf_type) (sym r.2) (subst (λ j. Q (entry_at t.entries j).btf_type) r.0 h)) (λ r. subst (λ (z : DataSecEntry). Q z.btf_type) (sym r) h)
-    (at_set t.entries at (placed id i) (record { btf_type = 0; offset = 0; size = 0 }) m))
+entry_id p int at i t Q m f h = search (rules, by_entry, at_set)
 
 -- ---- the entries of the section, in order
 module _ (p : Option ℕ) (int start : ℕ) where
@@ -239,17 +182,10 @@ module _ (p : Option ℕ) (d int : ℕ) (t : Tables) where
   gone = after p int begin t size
 
   pub section_row_rewritten : Rewritten gone (fix_section p d int t)
-  section_row_rewritten =
-      record {
-        types = alike_set gone.types d (sized (4 * size) (type_at gone.types d)) (record { kind = refl; name = refl; parts = refl });
-        entries = refl;
-        params = refl;
-        strings = refl;
-        header = refl;
-      }
+  section_row_rewritten = search (rules, alike_set)
 
   pub section_rewritten : Rewritten t (fix_section p d int t)
-  section_rewritten = rewritten_on t gone (fix_section p d int t) (entries_rewritten p int begin t size) section_row_rewritten
+  section_rewritten = search (rules, rewritten_on, entries_rewritten, section_row_rewritten)
 
   -- another row than the section's
   pub section_other : (x : ℕ) → (x ≡ d → ⊥) → type_at (fix_section p d int t).types x ≡ type_at gone.types x
@@ -278,8 +214,7 @@ module _ (p : Option ℕ) (d int : ℕ) (t : Tables) where
 
 -- ---- the whole
 pub int_known : (p : Option ℕ) (t : Tables) → ((q : ℕ) → p ≡ Some q → Declared t q) → (i : ℕ) → int_of p t.types ≡ Some i → i < length t.types
-int_known None t h i e = first_below t.types i e
-int_known (Some q) t h i e = subst (λ j. j < length t.types) (same_Some _ i e) (h q refl).type
+int_known p t h i e = search (rules, first_below, same_Some)
 
 -- the tables of a collected object, and what they become
 module _ (o : Object) (c : Collected o) where
@@ -296,10 +231,10 @@ module _ (o : Object) (c : Collected o) where
   one_longer = int_longer o.tables (int_of o.placeholder o.tables.types)
 
   pub one_below : with_one.0 < length with_one.1.types
-  one_below = int_below o.tables (int_of o.placeholder o.tables.types) (int_known o.placeholder o.tables (λ q e. declared_is o.tables q (c.placeholder q e)))
+  one_below = search (rules, int_below, int_known, declared_is)
 
   pub found_row : (c.section < length o.tables.types) × (is_data_sec (type_at o.tables.types c.section) ≡ true)
-  found_row = section_is o.tables.strings o.tables.types c.section c.found
+  found_row = search (rules, section_is)
 
   pub one_row : type_at with_one.1.types c.section ≡ type_at o.tables.types c.section
   one_row = longer_at o.tables with_one.1 one_longer c.section found_row.0
@@ -308,19 +243,16 @@ module _ (o : Object) (c : Collected o) where
   one_section = ap is_data_sec one_row ∙ found_row.1
 
   pub one_fits : Fits o.tables → end_of (type_at with_one.1.types c.section).parts ≤ length with_one.1.entries
-  one_fits f =
-      let a = follow_in (length o.tables.entries) 0 (parts_of 15 o.tables.types) f.sections _ (parts_in 15 o.tables.types c.section found_row.0 found_row.1) in
-      let b : length with_one.1.entries ≡ length o.tables.entries = ap length one_longer.entries in
-      subst (λ (r : BtfType). end_of r.parts ≤ length with_one.1.entries) (sym one_row) (omega arith)
+  one_fits f = search (rules, follow_in, parts_in, found_row, one_longer, one_row)
 
   pub one_declared : (x : ℕ) → declares o.tables x ≡ true → Declared with_one.1 x
-  one_declared x h = longer_declared o.tables with_one.1 one_longer x (declared_is o.tables x h)
+  one_declared x h = search (rules, longer_declared, one_longer, declared_is)
 
   pub done_declares : (x : ℕ) → Declared with_one.1 x → declares done x ≡ true
-  done_declares x h = is_declared done x (section_declared o.placeholder c.section with_one.0 with_one.1 one_below one_section x h)
+  done_declares x h = search (rules, is_declared, section_declared, one_below, one_section)
 
   pub done_fits : Fits with_one.1 → Fits done
-  done_fits f = rewritten_fits with_one.1 done (section_rewritten o.placeholder c.section with_one.0 with_one.1) f
+  done_fits f = search (rules, rewritten_fits, section_rewritten)
 
   pub done_found : section_of done ≡ Ok (Some c.section)
   done_found =
@@ -399,23 +331,11 @@ not_named name x h = search rules
 
 params_at : (name : ℕ) (proto : BtfType) (b : Bool) (ps : List BtfParam) (m : ℕ)
     → Unnamed (param_at ps m) ⊎ (b ≡ true → Outside proto.parts m) → param_at (cond b (named_params name proto ps) ps) m ≡ param_at ps m
-params_at name proto true ps m h =
-    ⊎_elim (λ e. e)
-    (λ r.
-    let a = r.0 in
-    let b = r.1 in
-    ⊎_elim (λ n. r.2 ∙ not_named name (param_at ps m) n) (λ g. absurd (⊎_elim (λ (l : m < proto.parts.start). omega arith) (λ (l : end_of proto.parts ≤ m). omega arith) (g refl))) h)
-    (part_at (named_param name) proto.parts.start proto.parts.len ps (record { name_offset = 0; btf_type = 0 }) m)
-params_at name proto false ps m h = refl
+params_at name proto b ps m h = search (rules, not_named, part_at)
 
 pub param_same : (p : Option ℕ) (int at i : ℕ) (t : Tables) (m : ℕ)
     → Unnamed (param_at t.params m) ⊎ NotOf t.types (id_at p int at i t) m → param_at (fix_entry p int at i t).params m ≡ param_at t.params m
-param_same p int at i t m h =
-    let proto = type_at t.types (row_at p int at i t).size_or_type in
-    by_entry p int at i t (λ u. param_at u.params m ≡ param_at t.params m)
-    (λ q s e. params_at (type_at t.types q).name_offset proto (is_func_proto proto) t.params m (⊎_elim (λ n. inl n) (λ g. inr (g e)) h))
-    (λ s e. refl)
-    (λ e. refl)
+param_same p int at i t m h = search (rules, by_entry, params_at)
 
 -- no part of the type of a function stays none where rows keep their shape and a Func its type
 not_of : (ts us : List BtfType) (id m : ℕ) → Shape (type_at ts id) (type_at us id)
@@ -447,7 +367,7 @@ module _ (p : Option ℕ) (int start : ℕ) (t : Tables) (len : ℕ) where
   Typed u = (x : ℕ) → is_func (type_at t.types x) ≡ true → (type_at u.types x).size_or_type ≡ (type_at t.types x).size_or_type
 
   typed_on : (at i : ℕ) (u : Tables) → Rewritten t u → Typed u → Typed (fix_entry p int at i u)
-  typed_on at i u r h x e = entry_func p int at i u x (ap (λ k. eqb (kind_number k) 12) (alike_at t.types u.types r.types x).kind ∙ e) ∙ h x e
+  typed_on at i u r h x e = search (rules, entry_func, alike_at)
 
   pub entries_param : (m : ℕ) → Unnamed (param_at t.params m) ⊎ ((j : ℕ) → j < len → NotOf t.types (entry_at t.entries (start + j)).btf_type m)
       → param_at (after p int start t len).params m ≡ param_at t.params m
@@ -498,11 +418,7 @@ module _ (o : Object) (c : Collected o) (f : Fits o.tables) where
 
   leaves_entries : (k : ℕ) → Outside (type_at o.tables.types c.section).parts k
       → entry_at new.tables.entries k ≡ entry_at o.tables.entries k
-  leaves_entries k s =
-      let u = (with_one o c).1 in
-      let row = type_at u.types c.section in
-      entries_outside o.placeholder (with_one o c).0 row.parts.start u row.parts.len k (subst (λ (r : BtfType). Outside r.parts k) (sym (one_row o c)) s)
-      ∙ ap (λ es. entry_at es k) (one_longer o c).entries
+  leaves_entries k s = search (rules, entries_outside, one_row, one_longer)
 
   leaves_params : (k : ℕ) → Unnamed (param_at o.tables.params k) ⊎ ((e : DataSecEntry) → In e (entries_of o.tables c.section) → NotOf o.tables.types e.btf_type k)
       → param_at new.tables.params k ≡ param_at o.tables.params k

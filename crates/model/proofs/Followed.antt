@@ -40,9 +40,4 @@ module _ (n : ℕ) where
 
   -- the test says that each starts where those before it end, and that the last one ends inside
   pub follow_is : (ss : List Span) → (follow 0 ss n ≡ true) ↔ SpansFollow ss n
-  follow_is ss = (
-    (λ h.
-        let l = follow_ends 0 ss h in
-        record { starts = λ front s back e. let r = follow_split 0 front s back (ap (λ zs. follow 0 zs n) (sym e) ∙ h) in omega arith; ends = omega arith }),
-    λ f. let l = f.ends in is_followed 0 ss (λ front s back e. let r = f.starts front s back e in omega arith) (omega arith),
-  )
+  follow_is ss = search (rules, follow_ends, follow_split, is_followed)

@@ -23,7 +23,7 @@ granted_none c o e = search rules
 
 -- a call is granted exactly if its tables are well-formed and it meets no refusal
 pub granted_parts : (s : Step) (st : State) → granted s st ≡ true → (fits s st ≡ true) × (reason s st ≡ None)
-granted_parts s st g = test_parts (fits s st) (reason s st) InvalidTable (granted_none (call_of s) _ g)
+granted_parts s st g = search (rules, test_parts, granted_none)
 
 pub granted_from : (s : Step) (st : State) → fits s st ≡ true → reason s st ≡ None → granted s st ≡ true
 granted_from s st f r = search rules
@@ -39,7 +39,7 @@ clear c ls e st g =
     record { typed = none_first (typed_refusal c) 0 st.object.externs q.0; lines = q.1 }
 
 pub clear_granted : (c : Option Catalogue) (ls : List (List ℕ)) (e : End) (st : State) → fits (resolve c ls e) st ≡ true → Clear c ls e st.object.externs → granted (resolve c ls e) st ≡ true
-clear_granted c ls e st f k = granted_from (resolve c ls e) st f (or_else_from _ _ (first_none (typed_refusal c) 0 st.object.externs k.typed) k.lines)
+clear_granted c ls e st f k = search (rules, granted_from, or_else_from, first_none)
 
 -- ---- the parts of a reading with nothing to refuse
 pub lines_parts : (xs : List Extern) (ls : List Line) (e : End) → lines_refusal xs ls e ≡ None → list_any wanted xs ≡ true → (first (line_refusal xs ls) 0 ls ≡ None) × (end_refusal e ≡ None) × (first (missing_refusal ls) 0 xs ≡ None)
@@ -49,11 +49,7 @@ pub lines_from : (xs : List Extern) (ls : List Line) (e : End) → (list_any wan
 lines_from xs ls e h = search rules
 
 pub none_missing : (xs : List Extern) (ls : List Line) (e : End) → lines_refusal xs ls e ≡ None → (x : Extern) → In x xs → missing_refusal ls x ≡ None
-none_missing xs ls e h x i =
-    ⊎_elim
-    (λ t. none_first (missing_refusal ls) 0 xs (lines_parts xs ls e h (any_in wanted xs x i t)).2 x i)
-    (λ t. cond-false _ _ _ (and_left _ _ (and_left _ _ t)))
-    (cases_Bool (wanted x))
+none_missing xs ls e h x i = search (rules, none_first, lines_parts, any_in, and_left)
 
 -- ---- relocations
 -- the rest of the relocations, after what one of them came to

@@ -37,13 +37,7 @@ pub judged :
     → wanted r ≡ true
     → In (line r.name o) ls
     → (is_some o ≡ true) × ((b : ℕ) → o ≡ Some b → (b ≡ 0 → ⊥) → first_address r.name ls ≡ b)
-judged rows ls e r o h i w j =
-    let has : Extern → Bool = λ q. wanted q && bytes_eq q.name r.name in
-    let p = none_first (line_refusal rows ls) 0 ls (lines_parts rows ls e h (any_in wanted rows r i w)).0 (line r.name o) j in
-    ⊎_elim
-    (λ k. absurd (both_ways _ (lookup_none has 0 rows k r i) (and_from _ _ w ((bytes_eq-Decides r.name r.name).1 refl))))
-    (λ k. refused_parts k.0.1 k.0.0 (first_address r.name ls) o (sym (ap (λ q. wanted_refusal q (first_address r.name ls) o) k.1) ∙ p))
-    (some_is (lookup has 0 rows))
+judged rows ls e r o h i w j = search (rules, none_first, lines_parts, any_in, both_ways, lookup_none, bytes_eq-Decides, refused_parts, some_is)
 
 pub not_missing : (ls : List Line) (r : Extern) → missing_refusal ls r ≡ None → wanted r ≡ true → r.weak ≡ false → first_address r.name ls ≡ 0 → ⊥
 not_missing ls r h w s z = search rules
@@ -109,37 +103,17 @@ module _
       line_clear short i = refl
 
       row_clear : (x : Extern) → In x (map f rows) → missing_refusal ls x ≡ None
-      row_clear x i =
-          let q = map_in f rows x i in
-          let r = q.0 in
-          ap (missing_refusal ls) (sym q.2)
-          ∙ cond_both ((wanted (f r) && not (f r).weak) && eqb (first_address (f r).name ls) 0) _ None (λ o. o ≡ None)
-          (λ t.
-          let p = and_parts _ _ t in
-          let u = and_parts _ _ p.0 in
-          let a = c.strong r q.1 (to r q.1 u.0) (sym (kept_weak (kept r)) ∙ not-true _ u.1) in
-          absurd (in_found (f r).name ls a.0 (named r (Some a.0) a.1.0, a.1.1) (eqb-true _ 0 p.1)))
-          (λ _. refl)
+      row_clear x i = search (rules, map_in, kept_weak, not-true, in_found, eqb-true)
 
     pub condition_lines : LineCondition W rows raw e → lines_refusal (map f rows) ls e ≡ None
-    condition_lines (inl none) =
-        lines_from (map f rows) ls e (λ t.
-        let x = any_some wanted (map f rows) t in
-        let q = map_in f rows x.0 x.1 in
-        absurd (none q.0 q.1 (to q.0 q.1 (ap wanted q.2 ∙ x.2))))
-    condition_lines (inr c) =
-        lines_from (map f rows) ls e (λ _. (
-          first_none (line_refusal (map f rows) ls) 0 ls (line_clear c),
-          ap end_refusal c.clean,
-          first_none (missing_refusal ls) 0 (map f rows) (row_clear c),
-        ))
+    condition_lines h = search (rules, lines_from, any_some, map_in, first_none, line_clear, row_clear)
 
 -- ---- typed rows
 typed_marked : (c : Option Catalogue) (b : Bool) (i a : Option ℕ) (r : Extern) → typed_refusal c (marked b i a r) ≡ typed_refusal c r
 typed_marked c b i a r = search rules
 
 typed_kept : (c : Option Catalogue) {r q : Extern} → Kept r q → typed_refusal c q ≡ typed_refusal c r
-typed_kept c {r} {q} k = ap (typed_refusal c) k.row ∙ typed_marked c q.resolved q.id q.address r
+typed_kept c {r} {q} k = search (rules, typed_marked)
 
 unfit_not : (x : Extern) → unfit_row x ≡ None → ⊥
 unfit_not x = search rules

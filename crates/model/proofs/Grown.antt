@@ -164,10 +164,7 @@ section_at strings i d (t ∷ ts) h =
     (λ e. after (sym (cond-false (is_data_sec t) _ _ e) ∙ h)) (cases_Bool (is_data_sec t))
 
 pub section_is : (strings : List ℕ) (ts : List BtfType) (d : ℕ) → section_from strings 0 ts ≡ Ok (Some d) → (d < length ts) × (is_data_sec (type_at ts d) ≡ true)
-section_is strings ts d h =
-    let r = section_at strings 0 d ts h in
-    let s : r.0 ≡ d = omega (arith, r.1) in
-    subst (λ k. (k < length ts) × (is_data_sec (type_at ts k) ≡ true)) s (r.2, r.3)
+section_is strings ts d h = search (rules, section_at)
 
 -- ---- the parts of a row of a kind
 pub parts_in : (k : ℕ) (ts : List BtfType) (d : ℕ) → d < length ts → of_kind k (type_at ts d) ≡ true → In (type_at ts d).parts (parts_of k ts)
@@ -203,41 +200,16 @@ pub record Rewritten (t u : Tables) : Type 0 where
   pub header : u.header ≡ t.header
 
 pub rewritten_same : (t : Tables) → Rewritten t t
-rewritten_same t = record { types = alike_same t.types; entries = refl; params = refl; strings = refl; header = refl }
+rewritten_same t = search (rules, alike_same)
 
 pub rewritten_on : (t u v : Tables) → Rewritten t u → Rewritten u v → Rewritten t v
-rewritten_on t u v a b =
-    record {
-      types = alike_on t.types u.types v.types a.types b.types;
-      entries = b.entries ∙ a.entries;
-      params = b.params ∙ a.params;
-      strings = b.strings ∙ a.strings;
-      header = b.header ∙ a.header;
-    }
+rewritten_on t u v a b = search (rules, alike_on)
 
 pub rewritten_fits : (t u : Tables) → Rewritten t u → Fits t → Fits u
-rewritten_fits t u r f =
-    let n = alike_length t.types u.types r.types in
-    let e = r.entries in
-    let p = r.params in
-    let s = ap length r.strings in
-    let a = f.types in
-    let b = f.entries in
-    let c = f.params in
-    let d = f.strings in
-    record {
-      types = omega arith;
-      entries = omega arith;
-      params = omega arith;
-      strings = omega arith;
-      void = alike_void t.types u.types r.types ∙ f.void;
-      parts = alike_parts t.types u.types r.types ∙ f.parts;
-      sections = (λ i. follow 0 (alike_spans 15 t.types u.types r.types i) (e i)) ∙ f.sections;
-      protos = (λ i. follow 0 (alike_spans 13 t.types u.types r.types i) (p i)) ∙ f.protos;
-    }
+rewritten_fits t u r f = search (rules, alike_length, alike_void, alike_parts, alike_spans)
 
 pub rewritten_section : (t u : Tables) → Rewritten t u → section_of u ≡ section_of t
-rewritten_section t u r = ap (λ s. section_from s 0 u.types) r.strings ∙ alike_section t.strings 0 t.types u.types r.types
+rewritten_section t u r = search (rules, alike_section)
 
 -- ---- one row more that has no parts
 pub record Plain (u : BtfType) : Type 0 where
@@ -247,20 +219,7 @@ pub record Plain (u : BtfType) : Type 0 where
 
 pub added_fits : (row : ℕ → BtfType) (name : List ℕ) (t : Tables) → Plain (row (length t.strings))
     → length t.types + 1 ≤ MAX_ROWS → length t.strings + length name ≤ MAX_NAMES → Fits t → Fits (added row name t)
-added_fits row name t p a b f =
-    let u = row (length t.strings) in
-    let n = length_push t.types u in
-    let s = length-append t.strings name in
-    record {
-      types = omega arith;
-      entries = f.entries;
-      params = f.params;
-      strings = omega arith;
-      void = void_push t.types _ f.void;
-      parts = parts_push t.types u f.parts p.parts;
-      sections = ap (λ ss. follow 0 ss (length t.entries)) (spans_push 15 t.types u p.section) ∙ f.sections;
-      protos = ap (λ ss. follow 0 ss (length t.params)) (spans_push 13 t.types u p.proto) ∙ f.protos;
-    }
+added_fits row name t p a b f = search (rules, length_push, length-append, void_push, parts_push, spans_push)
 
 -- ---- longer tables
 pub record Longer (t u : Tables) : Type 0 where
@@ -287,11 +246,10 @@ pub longer_at : (t u : Tables) → Longer t u → (i : ℕ) → i < length t.typ
 longer_at t u l i lt = grind (arith, common_steps)
 
 pub longer_name : (t u : Tables) → Longer t u → (o : ℕ) → is_some (name_at t.strings o) ≡ true → name_at u.strings o ≡ name_at t.strings o
-longer_name t u l o h = ap (λ x. name_at x o) l.strings ∙ name_stays t.strings l.bytes o h
+longer_name t u l o h = search (rules, name_stays)
 
 pub longer_section : (t u : Tables) → Longer t u → (d : ℕ) → section_of t ≡ Ok (Some d) → section_of u ≡ Ok (Some d)
-longer_section t u l d h =
-    (λ i. section_from (l.strings i) 0 (l.types i)) ∙ section_grows t.strings l.bytes l.rows 0 d t.types h
+longer_section t u l d h = search (rules, section_grows)
 
 pub longer_entries : (t u : Tables) → Longer t u → (d : ℕ) → d < length t.types → entries_of u d ≡ entries_of t d
 longer_entries t u l d lt = grind (arith, common_steps)
@@ -310,17 +268,7 @@ pub is_declared : (t : Tables) (id : ℕ) → Declared t id → declares t id �
 is_declared t id d = search rules
 
 pub longer_declared : (t u : Tables) → Longer t u → (id : ℕ) → Declared t id → Declared u id
-longer_declared t u l id d =
-    let n = longer_length t u l in
-    let a = d.below in
-    let b = d.type in
-    let row = longer_at t u l id d.below in
-    record {
-      below = omega arith;
-      kind = ap (λ r. is_func r || is_var r) row ∙ d.kind;
-      name = ap (λ r. is_some (name_at u.strings r.name_offset)) row ∙ ap is_some (longer_name t u l _ d.name) ∙ d.name;
-      type = subst (λ r. r.size_or_type < length u.types) (sym row) (omega arith);
-    }
+longer_declared t u l id d = search (rules, longer_length, longer_at, longer_name)
 
 -- ---- the int row and the placeholder
 module _ {X : Type 0} (p : X → Bool) where
@@ -336,10 +284,7 @@ number_some None i e = absurd (none-some i e)
 number_some (Some k) i e = (k, refl, same_Some k.0 i e)
 
 pub first_below : (ts : List BtfType) (i : ℕ) → first_int ts ≡ Some i → i < length ts
-first_below ts i e =
-    let r = number_some (lookup is_int_of_four 0 ts) i e in
-    let b = lookup_below is_int_of_four 0 ts r.0 r.1 in
-    let s = r.2 in omega (arith, b)
+first_below ts i e = search (rules, number_some, lookup_below)
 
 pub room_parts : (rows bytes : ℕ) (t : Tables) → room_for rows bytes t ≡ true → (length t.types + rows ≤ MAX_ROWS) × (length t.strings + bytes ≤ MAX_NAMES)
 room_parts rows bytes t h = search rules
@@ -352,8 +297,7 @@ plain_placeholder int name = search rules
 
 module _ (t : Tables) where
   pub int_longer : (o : Option ℕ) → Longer t (with_int o t).1
-  int_longer None = longer_added int_row int_name t
-  int_longer (Some i) = longer_same t
+  int_longer o = search (rules, longer_added, longer_same)
 
   pub int_below : (o : Option ℕ) → ((i : ℕ) → o ≡ Some i → i < length t.types) → (with_int o t).0 < length (with_int o t).1.types
   int_below o h = grind (arith, common_steps)

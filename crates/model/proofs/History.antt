@@ -126,10 +126,7 @@ module _ (c : Option Catalogue) (ls : List Line) (r : Extern) (typeless : r.type
       (sym given_mark ∙ m)
 
   pub named_mark : (a : ℕ) → Tells ls r.name a → (given c ls r).resolved ≡ true
-  named_mark a h =
-      given_mark
-      ∙ cond_both (r.resolved || eqb (first_address r.name ls) 0) r (resolved_to r.id (Some (first_address r.name ls)) r) (λ (x : Extern). x.resolved ≡ true)
-      (λ o. ⊎_elim (λ t. t) (λ t. absurd (in_found r.name ls a h (eqb-true _ 0 t))) (or_cases _ _ o)) (λ _. refl)
+  named_mark a h = search (rules, given_mark, in_found, eqb-true)
 
 module _ (st : State) (r : Extern) (typeless : r.typed ≡ None) where
   change_named : (s : Step) → r.resolved ≡ false → (change s st r).resolved ≡ true → (granted s st ≡ true) × ListedBy s r.name
@@ -171,12 +168,7 @@ found_resolved (s ∷ ss) st r n (inr f) =
 -- so what is wanted is known from the calls before
 module _ (ss : List Step) (st : State) (r : Extern) where
   pub wanted-Wanted : wanted (after ss st r) ≡ true → Wanted ss st r
-  wanted-Wanted w =
-      let p = and_parts _ _ w in
-      let n : r.typed ≡ None = sym (kept_typed (after_kept ss st r)) ∙ none_is _ (not-true _ p.0) in
-      (n, λ f. both_ways _ (not-true _ p.1) (found_resolved ss st r n f))
+  wanted-Wanted w = search (rules, kept_typed, after_kept, none_is, not-true, both_ways, found_resolved)
 
   pub Wanted-wanted : r.resolved ≡ false → Wanted ss st r → wanted (after ss st r) ≡ true
-  Wanted-wanted u (n, h) =
-      and_from _ _ (ap (λ o. not (is_some o)) (kept_typed (after_kept ss st r) ∙ n))
-      (⊎_elim (λ t. absurd (h (resolved_found ss st r n u t))) (λ t. ap not t) (cases_Bool (after ss st r).resolved))
+  Wanted-wanted u h = search (rules, kept_typed, after_kept, resolved_found)

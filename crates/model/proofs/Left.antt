@@ -21,13 +21,7 @@ same_code : (b : Bool) (bs : List ℕ) → cond b bs bs ≡ bs
 same_code b bs = search rules
 
 pub refused_changes_nothing : RefusedChangesNothing
-refused_changes_nothing =
-    record {
-      collection = λ o ss e h. ap (λ r. left_by r o) h;
-      resolution = λ c ls e st g. same_state st _ _ (cond-false (granted (resolve c ls e) st) _ _ g) (same_code (fits (resolve c ls e) st) st.code);
-      fix = λ st g. same_state st _ _ (cond-false (granted fixup st) _ _ g) (same_code (fits fixup st) st.code);
-      relocation = λ p st. same_object (granted (relocate p) st) st.object;
-    }
+refused_changes_nothing = search (rules, same_state, same_code, same_object)
 
 -- ---- relocation
 pub relocation_leaves_other_slots : RelocationLeavesOtherSlots

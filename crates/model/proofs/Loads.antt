@@ -106,12 +106,7 @@ module _ (T : ℕ → Type 0) (code new : List Slot) where
   pair_changed i v f t u = grind (arith, common_steps)
 
   load_changed : (name : Span) (t : Taken) (o : Option (ℕ × ℤ × ℤ)) → ValueFits o → T (slot_index t) → T (slot_index t + 1) → with_load code name t o ≡ Ok new → Changed T code new
-  load_changed name t None f p q e = absurd (err_not _ new e)
-  load_changed name t (Some v) f p q e =
-      ⊎_elim
-      (λ n. subst (Changed T code) (ok_same _ new (sym (cond-true (has_next t) (Ok (with_pair code (slot_index t) v)) (Err _) n) ∙ e)) (pair_changed (slot_index t) v f p q))
-      (λ n. absurd (err_not _ new (sym (cond-false (has_next t) (Ok (with_pair code (slot_index t) v)) (Err _) n) ∙ e)))
-      (cases_Bool (has_next t))
+  load_changed name t o f p q e = search (rules, err_not, ok_same, pair_changed)
 
   extern_changed : (x : Extern) (name : Span) (t : Taken) → T (slot_index t) → (is_load (slot_at code (slot_index t)) ≡ true → T (slot_index t + 1)) → patch_extern x name t code ≡ Ok new → Changed T code new
   extern_changed x name t p q =
@@ -129,15 +124,13 @@ module _ (xs : List Extern) (code new : List Slot) (t : Taken) where
   found_changed n (Some k) e = extern_changed (Reach code t (Some n)) code new k.1 n t (refl, inl refl) (λ l. (refl, inr (l, refl))) e
 
   name_changed : (names : List ℕ) (o : Option Span) → patch_name xs names o t code ≡ Ok new → Changed (Reach code t o) code new
-  name_changed names None e = subst (Changed (Reach code t None) code) (ok_same _ new e) (changed_none (Reach code t None) code)
-  name_changed names (Some n) e = found_changed n (extern_named (part names n) xs) e
+  name_changed names o e = search (rules, ok_same, changed_none, found_changed)
 
   symbol_changed : (names : List ℕ) (o : Option (ℕ × Symbol)) → patch_symbol xs names o t code ≡ Ok new → Changed (Reach code t (name_in o)) code new
-  symbol_changed names None e = absurd (err_not _ new e)
-  symbol_changed names (Some k) e = name_changed names (extern_name k.1) e
+  symbol_changed names o e = search (rules, err_not, name_changed)
 
   patch_changed : (ss : Symbols) → patch xs ss t code ≡ Ok new → Changed (Touches ss code t) code new
-  patch_changed ss = cond_both (on_slot t) _ _ (λ x. x ≡ Ok new → Changed (Touches ss code t) code new) (λ _. symbol_changed ss.names (symbol_of ss t)) (λ _ e. absurd (err_not _ new e))
+  patch_changed ss = search (rules, symbol_changed, err_not)
 
 -- ---- all of them
 -- the codes of the slots are those at the start

@@ -135,4 +135,4 @@ finds_the_first X =
     }
 
 pub lookups_find_the_first : LookupsFindTheFirst
-lookups_find_the_first = record { symbols = finds_the_first _; externs = finds_the_first _; catalogue = finds_the_first _; types = finds_the_first _ }
+lookups_find_the_first = search (rules, finds_the_first)

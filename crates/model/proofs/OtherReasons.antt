@@ -80,11 +80,7 @@ end_other : (e : End) → Others (end_refusal e)
 end_other e = search rules
 
 lines_other : (xs : List Extern) (ls : List Line) (e : End) → Others (lines_refusal xs ls e)
-lines_other xs ls e =
-    cond_both _ _ None Others
-    (λ _. else_others _ _ (first_others (line_refusal xs ls) (line_other xs ls) 0 ls)
-    (else_others _ _ (end_other e) (first_others (missing_refusal ls) (λ x. cond_both _ (Some _) None OtherBy (λ _ n. other 12 refl) (λ _. tt)) 0 xs)))
-    (λ _. tt)
+lines_other xs ls e = search (rules, else_others, first_others, line_other, end_other)
 
 -- ---- fixup
 fix_other : (xs : List Extern) (p : Option ℕ) (t : Tables) → Others (fix_refusal_for xs p t)
@@ -123,11 +119,7 @@ patched_other xs ss (t ∷ ts) code =
 
 -- ---- every call
 reason_other : (s : Step) (st : State) → Others (reason s st)
-reason_other (resolve c ls e) st =
-    let xs = st.object.externs in
-    else_others _ _ (first_others (typed_refusal c) (λ x. cond_both _ _ None OtherBy (λ _. catalogue_other c x) (λ _. tt)) 0 xs) (lines_other xs (map said ls) e)
-reason_other fixup st = fix_other st.object.externs st.object.placeholder st.object.tables
-reason_other (relocate p) st = patched_other st.object.externs p.symbols (taken p.functions p.relocations) (slots st.code)
+reason_other s st = search (rules, else_others, first_others, catalogue_other, lines_other, fix_other, patched_other)
 
 others_not : (o : Option Reason) → Others o → o ≡ Some InvalidTable → ⊥
 others_not o h e = search rules

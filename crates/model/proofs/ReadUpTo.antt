@@ -49,19 +49,4 @@ some_first : (n : ℕ) (o : Option (ℕ → Reason)) (r : Option Reason) → is_
 some_first n o r t = search rules
 
 pub lines_are_read : LinesAreRead
-lines_are_read =
-    record {
-      unread = λ c ls xs h. cond-true _ _ _ (⊎_elim (λ t. or_left _ _ t) (λ w. or_right (is_some (first (typed_refusal c) 0 xs)) _ (ap not w)) h);
-      all_read = λ c ls xs r h. cond-false _ _ _ (idle c xs r) ∙ after_none (λ l. is_some (line_refusal xs (map said ls) (said l))) ls h;
-      read_to = λ c xs front l back r h t.
-          cond-false _ _ _ (idle c xs r) ∙ after_one (λ k. is_some (line_refusal xs (map said (front ++ l ∷ back)) (said k))) front l back h t;
-      refused = λ c xs front l back e r h t.
-          let ls = map said (front ++ l ∷ back) in
-          let why = line_refusal xs ls in
-          let rest : Option Reason = option_or (end_refusal e) (first (missing_refusal ls) 0 xs) in
-          ap (λ o. option_or o (cond (list_any wanted xs) (option_or (first why 0 ls) rest) None)) r.0
-          ∙ cond-true (list_any wanted xs) (option_or (first why 0 ls) rest) None r.1
-          ∙ ap (λ o. option_or o rest) (first_at why 0 front l back h t)
-          ∙ some_first (0 + length front) (why (said l)) rest t
-          ∙ ap (λ m. numbered m (why (said l))) (zero-add (length front));
-    }
+lines_are_read = search (rules, or_left, or_right, after_none, after_one, first_at, some_first, zero-add)

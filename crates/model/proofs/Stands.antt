@@ -41,7 +41,7 @@ said_below : (l n : List ℕ) (a : ℕ) → said l ≡ line n (Some a) → a < 2
 said_below l n a = search rules
 
 pub lists_below : (ls : List (List ℕ)) (n : List ℕ) (a : ℕ) → Lists ls n a → a < 2 ^ 64
-lists_below ls n a h = let k = map_in said ls (line n (Some a)) h.0 in said_below k.0 n a k.2
+lists_below ls n a h = search (rules, map_in, said_below)
 
 -- ---- what a resolution gives an extern
 module _ (c : Option Catalogue) (ls : List Line) (p : Extern) (a : ℕ) (nonzero : a ≡ 0 → ⊥) (other : p.address ≡ Some a → ⊥) where
@@ -72,13 +72,13 @@ change_took c ls e st p a nonzero other =
 
 -- ---- the extern of a name after calls
 named_map : (n : List ℕ) (f : Extern → Extern) → ((r : Extern) → Kept r (f r)) → (xs : List Extern) → extern_named n (map f xs) ≡ mapped f (extern_named n xs)
-named_map n f k xs = lookup_map (λ r. bytes_eq r.name n) f (λ r. ap (λ m. bytes_eq m n) (kept_name (k r))) 0 xs
+named_map n f k xs = search (rules, lookup_map, kept_name)
 
 named_after : (n : List ℕ) (ss : List Step) (st : State) → extern_named n (runs ss st).object.externs ≡ mapped (after ss st) (extern_named n st.object.externs)
-named_after n ss st = ap (extern_named n) (runs_after ss st) ∙ named_map n (after ss st) (after_kept ss st) st.object.externs
+named_after n ss st = search (rules, runs_after, named_map, after_kept)
 
 named_next : (n : List ℕ) (s : Step) (st : State) → extern_named n (next s st).object.externs ≡ mapped (change s st) (extern_named n st.object.externs)
-named_next n s st = ap (extern_named n) (next_change s st) ∙ named_map n (change s st) (change_kept s st) st.object.externs
+named_next n s st = search (rules, next_change, named_map, change, change_kept)
 
 -- ---- a pair that holds an address loads it
 held : (new old : List Slot) (i a : ℕ) → a < 2 ^ 64 → Paired new old i a → Holds new i a
@@ -169,11 +169,7 @@ module _
 
 -- a call that is no resolution gives no address
 same_address : (n : List ℕ) (s : Step) (st : State) → ((x : Extern) → change s st x ≡ x) → address_of n (next s st) ≡ address_of n st
-same_address n s st h = ap address_in (named_next n s st) ∙ by (extern_named n st.object.externs)
-  where
-    by : (o : Option (ℕ × Extern)) → address_in (mapped (change s st) o) ≡ address_in o
-    by None = refl
-    by (Some k) = ap (λ x. x.address) (h k.1)
+same_address n s st h = search (rules, named_next, change)
 
 pub call_stands :
     (st : State) (before : List Step) (s : Step) (later : List Step) (n : List ℕ) (a : ℕ)

@@ -50,7 +50,7 @@ module _ {X : Type 0} (before : X → X → Bool) (R : X → X → Type 0)
       and_from (before x y) _ (from x y (h [] x [] y ys refl)) (is_ascending (y ∷ ys) (λ front a middle b back e. h (x ∷ front) a middle b back (ap (λ zs. x ∷ zs) e)))
 
   ascends_is : (xs : List X) → (ascends before xs ≡ true) ↔ Ascending R xs
-  ascends_is xs = ((λ h front x middle y back e. ascends_split front x middle y back (ap (ascends before) (sym e) ∙ h)), is_ascending xs)
+  ascends_is xs = search (rules, ascends_split, is_ascending)
 
 -- pairs of numbers in order
 earlier_is : (p q : ℕ × ℕ) → earlier p q ≡ true → Before p q
@@ -63,9 +63,7 @@ before_on : (p q r : ℕ × ℕ) → Before p q → Before q r → Before p r
 before_on p q r h h2 = search rules
 
 keys_ascend : {X : Type 0} (key : X → ℕ × ℕ) (xs : List X) → (ascends (λ x y. earlier (key x) (key y)) xs ≡ true) ↔ Ascending (λ x y. Before (key x) (key y)) xs
-keys_ascend key xs =
-    ascends_is (λ x y. earlier (key x) (key y)) (λ x y. Before (key x) (key y)) (λ x y. earlier_is (key x) (key y)) (λ x y. is_earlier (key x) (key y))
-    (λ x y z. before_on (key x) (key y) (key z)) xs
+keys_ascend key xs = search (rules, ascends_is, earlier_is, is_earlier, before_on)
 
 -- ---- a BTF
 void_is : (ts : List BtfType) → void_first ts ≡ true → (0 < length ts) × (kind_number (type_at ts 0).kind ≡ 0)
@@ -81,32 +79,10 @@ is_part : (r : BtfType) → (of_kind 15 r ≡ false → of_kind 13 r ≡ false �
 is_part r h = search rules
 
 fits_formed : (t : Tables) → Fits t → WellFormedTables t
-fits_formed t f =
-    let v = void_is t.types f.void in
-    record {
-      types = f.types;
-      entries = f.entries;
-      params = f.params;
-      strings = f.strings;
-      some = v.0;
-      void = v.1;
-      sections = (follow_is (length t.entries) (parts_of 15 t.types)).0 f.sections;
-      protos = (follow_is (length t.params) (parts_of 13 t.types)).0 f.protos;
-      others = λ r i. part_is r (all_in parts_fit t.types f.parts r i);
-    }
+fits_formed t f = search (rules, void_is, follow_is, part_is, all_in)
 
 formed_fits : (t : Tables) → WellFormedTables t → Fits t
-formed_fits t w =
-    record {
-      types = w.types;
-      entries = w.entries;
-      params = w.params;
-      strings = w.strings;
-      void = is_void t.types w.some w.void;
-      parts = in_all parts_fit t.types (λ r i. is_part r (w.others r i));
-      sections = (follow_is (length t.entries) (parts_of 15 t.types)).1 w.sections;
-      protos = (follow_is (length t.params) (parts_of 13 t.types)).1 w.protos;
-    }
+formed_fits t w = search (rules, is_void, in_all, is_part, follow_is)
 
 -- ---- an object
 collected_or_none : (o : Object) (xs : List Extern) → o.externs ≡ xs → object_fits o ≡ true → (o.externs ≡ []) ⊎ Collected o
@@ -114,14 +90,10 @@ collected_or_none o [] e h = inl e
 collected_or_none o (x ∷ xs) e h = inr (object_collected o x xs e h)
 
 object_formed : (o : Object) → object_fits o ≡ true → WellFormedObject o
-object_formed o h =
-    let p = object_parts o h in
-    record { tables = fits_formed o.tables p.0; few = leb-true _ _ p.1; collected = collected_or_none o o.externs refl h }
+object_formed o h = search (rules, object_parts, fits_formed, leb-true, collected_or_none)
 
 formed_object : (o : Object) → WellFormedObject o → object_fits o ≡ true
-formed_object o w =
-    and_from (tables_fit o.tables) _ (is_fit o.tables (formed_fits o.tables w.tables))
-    (and_from (leb (length o.externs) MAX_EXTERNS) _ (le-leb _ _ w.few) (⊎_elim (λ e. ap (collected_if_any o) e) (collected_test o) w.collected))
+formed_object o w = search (rules, is_fit, formed_fits, le-leb, collected_test)
 
 -- ---- symbols and catalogues
 indices_ascend : (ss : List Symbol) → (ascends (λ s t. ltb s.index t.index) ss ≡ true) ↔ Ascending (λ s t. s.index < t.index) ss
@@ -140,16 +112,7 @@ module _ (ss : Symbols) where
   name_inside s = inside_if_any ss.names s.name
 
   symbols_formed : symbols_fit ss ≡ true → WellFormedSymbols ss
-  symbols_formed h =
-      let a = and_parts (leb (length ss.rows) MAX_ROWS && leb (length ss.names) MAX_NAMES) _ h in
-      let b = and_parts (leb (length ss.rows) MAX_ROWS) _ a.0 in
-      let c = and_parts (ascends (λ s t. ltb s.index t.index) ss.rows) (list_all name_inside ss.rows) a.1 in
-      record {
-        rows = leb-true _ _ b.0;
-        names = leb-true _ _ b.1;
-        ascend = (indices_ascend ss.rows).0 c.0;
-        inside = λ s n i. inside_is ss.names s.name (all_in name_inside ss.rows c.1 s i) n;
-      }
+  symbols_formed h = search (rules, leb-true, indices_ascend, inside_is, all_in)
 
   formed_symbols : WellFormedSymbols ss → symbols_fit ss ≡ true
   formed_symbols w =
@@ -163,10 +126,7 @@ module _ (c : Catalogue) where
   row_inside k = inside c.names k.name
 
   catalogue_formed : catalogue_fits (Some c) ≡ true → WellFormedCatalogue c
-  catalogue_formed h =
-      let a = and_parts (leb (length c.rows) MAX_ROWS && leb (length c.names) MAX_NAMES) (list_all row_inside c.rows) h in
-      let b = and_parts (leb (length c.rows) MAX_ROWS) _ a.0 in
-      record { rows = leb-true _ _ b.0; names = leb-true _ _ b.1; inside = λ k i. leb-true _ _ (all_in row_inside c.rows a.1 k i) }
+  catalogue_formed h = search (rules, leb-true, all_in)
 
   formed_catalogue : WellFormedCatalogue c → catalogue_fits (Some c) ≡ true
   formed_catalogue w =
@@ -225,11 +185,4 @@ module _ (p : Program) (code : List ℕ) where
 
 -- ---- the whole
 pub tables_are_tested : TablesAreTested
-tables_are_tested =
-    record {
-      tables = λ t. ((λ h. fits_formed t (fits_is t h)), λ w. is_fit t (formed_fits t w));
-      object = λ o. (object_formed o, formed_object o);
-      symbols = λ ss. (symbols_formed ss, formed_symbols ss);
-      catalogue = λ c. (catalogue_formed c, formed_catalogue c);
-      program = λ p code. (program_formed p code, formed_program p code);
-    }
+tables_are_tested = search (rules, fits_formed, fits_is, is_fit, formed_fits, object_formed, formed_object, symbols_formed, formed_symbols, catalogue_formed, formed_catalogue, program_formed, formed_program)

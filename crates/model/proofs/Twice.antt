@@ -86,16 +86,7 @@ no_int r h = search rules
 
 int_entry : (p : Option ℕ) (int at i : ℕ) (t : Tables) → (is_func (row_at p int at i t) || is_var (row_at p int at i t)) ≡ true
     → (x : ℕ) → is_int_of_four (type_at (fix_entry p int at i t).types x) ≡ is_int_of_four (type_at t.types x)
-int_entry p int at i t v x =
-    let id = id_at p int at i t in
-    let row = row_at p int at i t in
-    by_entry p int at i t (λ u. is_int_of_four (type_at u.types x) ≡ is_int_of_four (type_at t.types x))
-    (λ q s e. ⊎_elim (λ r. ap is_int_of_four r.2 ∙ ap (λ j. is_int_of_four (type_at t.types j)) (sym r.0)) (λ r. ap is_int_of_four r) (at_set t.types id (global_func row) no_row x))
-    (λ s e. refl)
-    (λ e.
-    ⊎_elim
-    (λ r. ap is_int_of_four r.2 ∙ and_left (is_int row) _ (no_int row v) ∙ sym (and_left (is_int row) (eqb row.size_or_type 4) (no_int row v)) ∙ ap (λ j. is_int_of_four (type_at t.types j)) (sym r.0))
-    (λ r. ap is_int_of_four r) (at_set t.types id (global_var int row) no_row x))
+int_entry p int at i t v x = search (rules, by_entry, at_set, and_left, no_int)
 
 -- ---- after the first time each entry is fixed
 module _ (p : Option ℕ) (int start : ℕ) (t : Tables) (len : ℕ) where
@@ -156,25 +147,16 @@ module _ (p : Option ℕ) (d int : ℕ) (t : Tables) (lt : d < length t.types) (
   last = (gone p d int t).types
 
   last_section : is_data_sec (type_at last d) ≡ true
-  last_section = ap (λ k. eqb (kind_number k) 15) (alike_at t.types last (entries_rewritten p int (begin p d int t) t (size p d int t)).types d).kind ∙ sec
+  last_section = search (rules, alike_at, entries_rewritten)
 
   good_end : (x : ℕ) → Good last int x → Good end.types int x
-  good_end x g =
-      good_set last int d x (sized (4 * size p d int t) (type_at last d))
-      (λ e. true≢false (sym last_section ∙ ap (λ j. is_data_sec (type_at last j)) (sym e) ∙ kinds_apart (type_at last x) 14 15 (λ n. omega arith) g.var)) g
+  good_end x g = search (rules, good_set, true≢false, last_section, kinds_apart)
 
   ints_end : (x : ℕ) → is_int_of_four (type_at end.types x) ≡ is_int_of_four (type_at last x)
-  ints_end x =
-      let row = type_at last d in
-      let no : is_int row ≡ false = kinds_apart row 15 1 (λ n. omega arith) last_section in
-      ⊎_elim
-      (λ r. ap is_int_of_four r.2 ∙ and_left (is_int row) _ no ∙ sym (and_left (is_int row) (eqb row.size_or_type 4) no) ∙ ap (λ j. is_int_of_four (type_at last j)) (sym r.0))
-      (λ r. ap is_int_of_four r) (at_set last d (sized (4 * size p d int t) row) no_row x)
+  ints_end x = search (rules, kinds_apart, last_section, and_left, at_set)
 
   end_row : type_at end.types d ≡ sized (4 * size p d int t) (type_at last d)
-  end_row =
-      let n = alike_length t.types last (entries_rewritten p int (begin p d int t) t (size p d int t)).types in
-      get_or-set_same last d (sized (4 * size p d int t) (type_at last d)) no_row (omega arith)
+  end_row = search (rules, alike_length, entries_rewritten, get_or-set_same)
 
   -- where each entry is fixed nothing changes
   section_idle : ((j : ℕ) → j < size p d int t → Placed (gone p d int t) int (begin p d int t + j) j) → fix_section p d int end ≡ end
@@ -221,10 +203,7 @@ first_push n (t ∷ ts) u i e =
     (cases_Bool (is_int_of_four t))
 
 first_with : (t : Tables) (o : Option ℕ) → first_int t.types ≡ o → first_int (with_int o t).1.types ≡ Some (with_int o t).0
-first_with t None e =
-    let on : 0 + length t.types ≡ length t.types = omega arith in
-    first_push 0 t.types (int_row (length t.strings)) refl (number_none (lookup is_int_of_four 0 t.types) e) ∙ ap Some on
-first_with t (Some i) e = e
+first_with t o e = search (rules, first_push, number_none)
 
 -- ---- the whole
 abbrev pub GlobalVar : Option ℕ → Tables → Type 0
@@ -282,9 +261,7 @@ module _ (o : Object) (c : Collected o) (f : Fits o.tables) (g : GlobalVar o.pla
   done_idle = section_idle p d int one one_lt (one_section o c) went.fixed
 
   done_twice : fixed_tables p (done o c) ≡ done o c
-  done_twice =
-      ap (λ r. fix_found p r (with_int (int_of p (done o c).types) (done o c))) (done_found o c)
-      ∙ ap (λ i. fix_section p d (with_int i (done o c)).0 (with_int i (done o c)).1) done_int ∙ done_idle
+  done_twice = search (rules, done_found, done_int, done_idle)
 
 -- the same with the list of externs taken apart
 pub record Again (xs : List Extern) (p : Option ℕ) (t : Tables) : Type 0 where

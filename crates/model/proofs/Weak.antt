@@ -41,18 +41,16 @@ distinct_weak m (x ∷ xs) = λ i.
     not (any_masked weaker (λ y. bytes_eq y.name x.name) (λ b y. refl) (λ j. m (suc j)) xs i) && distinct_weak (λ j. m (suc j)) xs i
 
 externs_fit_weak : (t : Tables) (m : ℕ → Bool) (xs : List Extern) → externs_fit t (weakened m xs) ≡ externs_fit t xs
-externs_fit_weak t m xs = λ i.
-    all_masked weaker (λ x. declares t x.entry && reads_as (name_at t.strings x.place) x.name) (λ b x. refl) m xs i && distinct_weak m xs i
+externs_fit_weak t m xs = search (rules, all_masked, distinct_weak)
 
 collected_weak : (m : ℕ → Bool) (o : Object) (xs : List Extern) → collected_if_any (weakened_object m o) (weakened m xs) ≡ collected_if_any o xs
-collected_weak m o [] = refl
-collected_weak m o (x ∷ xs) = ap (λ b. found_fits o.tables o.placeholder (section_of o.tables) && b) (externs_fit_weak o.tables m o.externs)
+collected_weak m o xs = search (rules, externs_fit_weak)
 
 object_fits_weak : (m : ℕ → Bool) (o : Object) → object_fits (weakened_object m o) ≡ object_fits o
-object_fits_weak m o = λ i. tables_fit o.tables && (leb (masked_length weaker m o.externs i) MAX_EXTERNS && collected_weak m o o.externs i)
+object_fits_weak m o = search (rules, masked_length, collected_weak)
 
 fits_weak : (s : Step) (m : ℕ → Bool) (st : State) → fits s (weakened_state m st) ≡ fits s st
-fits_weak s m st = ap (λ b. b && brings_fit s st.code) (object_fits_weak m st.object)
+fits_weak s m st = search (rules, object_fits_weak)
 
 -- ---- a granted resolution is granted
 typed_weak : (c : Option Catalogue) (b : Bool) (x : Extern) → typed_refusal c x ≡ None → typed_refusal c (weaker b x) ≡ None
@@ -65,8 +63,7 @@ line_same : (a : ℕ) (b : Option ℕ) (o q : Option (ℕ × Extern)) → Found 
 line_same a b o q w = search rules
 
 line_weak : (m : ℕ → Bool) (xs : List Extern) (ls : List Line) (l : Line) → line_refusal (weakened m xs) ls l ≡ line_refusal xs ls l
-line_weak m xs ls (line n o) = line_same (first_address n ls) o _ _ (lookup_masked weaker (λ x. wanted x && bytes_eq x.name n) (λ b x. refl) 0 m xs)
-line_weak m xs ls short = refl
+line_weak m xs ls l = search (rules, line_same, lookup_masked)
 
 lines_weak : (m : ℕ → Bool) (xs : List Extern) (ls : List Line) (e : End) → lines_refusal xs ls e ≡ None → lines_refusal (weakened m xs) ls e ≡ None
 lines_weak m xs ls e h =
@@ -80,11 +77,7 @@ lines_weak m xs ls e h =
     ))
 
 clear_weak : (m : ℕ → Bool) (c : Option Catalogue) (ls : List (List ℕ)) (e : End) (xs : List Extern) → Clear c ls e xs → Clear c ls e (weakened m xs)
-clear_weak m c ls e xs k =
-    record {
-      typed = λ y i. let w = in_masked weaker m xs y i in ap (typed_refusal c) w.3 ∙ typed_weak c w.0 w.1 (k.typed w.1 w.2);
-      lines = lines_weak m xs (map said ls) e k.lines;
-    }
+clear_weak m c ls e xs k = search (rules, in_masked, typed_weak, lines_weak)
 
 -- ---- what a granted resolution sets
 weaker_same : (b : Bool) (x : Extern) → x.weak ≡ true → weaker b x ≡ x
@@ -153,11 +146,10 @@ module _ (code : List Slot) (t : Taken) where
     name_weak names (Some n) = found_weak n _ _ (lookup_masked weaker (λ x. bytes_eq x.name (part names n)) (λ b x. refl) 0 m xs)
 
     symbol_weak : (names : List ℕ) (o : Option (ℕ × Symbol)) → Same (patch_symbol xs names o t code) (patch_symbol (weakened m xs) names o t code)
-    symbol_weak names None = λ x e. e
-    symbol_weak names (Some k) = name_weak names (extern_name k.1)
+    symbol_weak names o = search (rules, name_weak)
 
     patch_weak : (ss : Symbols) → Same (patch xs ss t code) (patch (weakened m xs) ss t code)
-    patch_weak ss = cond_same (on_slot t) _ _ _ _ (symbol_weak ss.names (symbol_of ss t)) (λ x e. e)
+    patch_weak ss = search (rules, cond_same, symbol_weak)
 
 patched_weak : (m : ℕ → Bool) (xs : List Extern) (ss : Symbols) (ts : List Taken) (code : List Slot) → (patched xs ss ts code).1 ≡ None → patched (weakened m xs) ss ts code ≡ patched xs ss ts code
 patched_weak m xs ss [] code h = refl
@@ -229,16 +221,7 @@ runs_weak m (s ∷ ss) st g =
     ((granted_weak s m st g.0, subst (AllGranted ss) (sym n) rest.0), ap (runs ss) n ∙ rest.1)
 
 same_weak : (m : ℕ → Bool) (st : State) → SameButWeak st (weakened_state m st)
-same_weak m st =
-    let xs = st.object.externs in
-    record {
-      externs = map_masked weaker unmarked (λ b x. refl) m xs;
-      addresses = map_masked weaker (λ x. x.address) (λ b x. refl) m xs;
-      ids = map_masked weaker (λ x. x.id) (λ b x. refl) m xs;
-      tables = refl;
-      placeholder = refl;
-      code = refl;
-    }
+same_weak m st = search (rules, map_masked)
 
 -- ---- calls that bring symbols declared weak
 abbrev weaker_program : (ℕ → Bool) → Program → Program
@@ -252,21 +235,13 @@ module _ (xs : List Extern) (m : ℕ → Bool) (ss : Symbols) where
   ww = weaker_symbols m ss
 
   patch_marks : (t : Taken) (code : List Slot) → patch xs ww t code ≡ patch xs ss t code
-  patch_marks t code =
-      ap (λ r. cond (on_slot t) r (Err (Reason.InvalidRelocationOffset t.row)))
-      (ap (λ rs. patch_symbol xs ss.names (lookup (λ s. eqb s.index t.relocation.symbol) 0 rs) t code) (rows_masked m ss.rows)
-      ∙ symbol_marks xs ss.names t code _ _ (lookup_masked weaker_symbol (λ s. eqb s.index t.relocation.symbol) (λ b s. refl) 0 m ss.rows))
+  patch_marks t code = search (rules, rows_masked, symbol_marks, lookup_masked)
 
   patched_marks : (ts : List Taken) (code : List Slot) → patched xs ww ts code ≡ patched xs ss ts code
-  patched_marks [] code = refl
-  patched_marks (t ∷ ts) code =
-      let by : (p : Result (List Slot) Reason) → go_on xs ww ts code p ≡ go_on xs ss ts code p = elim [ Ok new ↦ patched_marks ts new | Err e ↦ refl ] in
-      ap (go_on xs ww ts code) (patch_marks t code) ∙ by (patch xs ss t code)
+  patched_marks ts code = search (rules, patch_marks)
 
 fits_marks : (m : ℕ → Bool) (p : Program) (code : List ℕ) → program_fits (weaker_program m p) code ≡ program_fits p code
-fits_marks m p code =
-    ap (λ b. code_fits code && (b && (relocations_fit p.relocations && functions_fit p.functions (length code / 8))))
-    (ap symbols_fit (changed_is m p.symbols) ∙ symbols_fit_weak m p.symbols)
+fits_marks m p code = search (rules, changed_is, symbols_fit_weak)
 
 record SameStep (s t : Step) (st : State) : Type 0 where
   pub grants : granted t st ≡ granted s st

@@ -102,13 +102,10 @@ module _ (m : ℕ → Bool) (ss : Symbols) where
   changed_is = search rules
 
   pub symbols_fit_weak : symbols_fit changed ≡ symbols_fit ss
-  symbols_fit_weak = λ i.
-      (leb (masked_length weaker_symbol m ss.rows i) MAX_ROWS && leb (length ss.names) MAX_NAMES)
-      && (ascends_masked weaker_symbol (λ s t. ltb s.index t.index) (λ b c s t. refl) m ss.rows i
-      && all_masked weaker_symbol (λ s. inside_if_any ss.names s.name) (λ b s. refl) m ss.rows i)
+  symbols_fit_weak = search (rules, masked_length, ascends_masked, all_masked)
 
   symbol_named_weak : (name : List ℕ) → Found weaker_symbol (symbol_named ss name) (symbol_named changed name)
-  symbol_named_weak name = lookup_masked weaker_symbol (λ s. reads_as (symbol_name ss s) name) (λ b s. refl) 0 m ss.rows
+  symbol_named_weak name = search (rules, lookup_masked)
 
 -- ---- the same refusal, or a grant that a mark changes
 abbrev pub Alike : {D X : Type 0} → (D → X → X) → Result X Reason → Result X Reason → Type 0
@@ -127,14 +124,13 @@ symbol_alike ts n id row name o q w = search rules
 
 module _ (t : Tables) (m : ℕ → Bool) (ss : Symbols) where
   name_alike : (n id : ℕ) (row : BtfType) (o : Option (List ℕ)) → Alike weaker (name_read t.types ss n id row o) (name_read t.types (changed m ss) n id row o)
-  name_alike n id row None = refl
-  name_alike n id row (Some name) = symbol_alike t.types n id row name _ _ (symbol_named_weak m ss name)
+  name_alike n id row o = search (rules, symbol_alike, symbol_named_weak)
 
   row_alike : (n id : ℕ) (row : BtfType) → Alike weaker (row_read t ss n id row) (row_read t (changed m ss) n id row)
-  row_alike n id row = cond_alike weaker (is_func row || is_var row) _ _ _ (name_alike n id row (name_at t.strings row.name_offset))
+  row_alike n id row = search (rules, cond_alike, name_alike)
 
   entry_alike : (n : ℕ) (e : DataSecEntry) → Alike weaker (entry_read t ss n e) (entry_read t (changed m ss) n e)
-  entry_alike n e = cond_alike weaker (ltb e.btf_type (length t.types)) _ _ _ (row_alike n e.btf_type (type_at t.types e.btf_type))
+  entry_alike n e = search (rules, cond_alike, row_alike)
 
 -- ---- all entries
 first_alike : (p q : Result Extern Reason) (ps qs : Result (List Extern) Reason) → Alike weaker p q → Alike weakened ps qs → Alike weakened (with_first p ps) (with_first q qs)
@@ -164,20 +160,14 @@ unless_alike r m o = search rules
 
 module _ (t : Tables) where
   rows_weak : (n : ℕ) (func : Bool) (m : ℕ → Bool) (xs : List Extern) → Alike weakened_object (collect_rows t n func (Ok xs)) (collect_rows t n func (Ok (weakened m xs)))
-  rows_weak n func m xs =
-      let last : option_or (duplicate [] n xs) (room_refusal func xs t) ≡ option_or (duplicate [] n (weakened m xs)) (room_refusal func (weakened m xs) t) = λ i.
-      option_or (sym (duplicate_weak [] [] (λ z. refl) n m xs) i) (cond (leb (sym (masked_length weaker m xs) i) MAX_EXTERNS && room_for_func func t) None (Some Reason.NoRoom)) in
-      subst (Alike weakened_object (collect_rows t n func (Ok xs))) (λ i. granted_unless (last i) (sym (made_weak func m xs t) i))
-      (unless_alike (option_or (duplicate [] n xs) (room_refusal func xs t)) m (made func xs t))
+  rows_weak n func m xs = search (rules, duplicate_weak, masked_length, made_weak, unless_alike)
 
   rows_alike : (n : ℕ) (func : Bool) (p q : Result (List Extern) Reason) → Alike weakened p q → Alike weakened_object (collect_rows t n func p) (collect_rows t n func q)
-  rows_alike n func (Err e) q h = ap (collect_rows t n func) h
-  rows_alike n func (Ok xs) q h = subst (λ r. Alike weakened_object (collect_rows t n func (Ok xs)) (collect_rows t n func r)) (sym h.1) (rows_weak n func h.0 xs)
+  rows_alike n func p q h = search (rules, rows_weak)
 
   module _ (m : ℕ → Bool) (ss : Symbols) where
     entries_alike : (n : ℕ) (es : List DataSecEntry) (r : Result Bool Reason) → Alike weakened_object (collect_entries t ss n es r) (collect_entries t (changed m ss) n es r)
-    entries_alike n es (Err e) = refl
-    entries_alike n es (Ok func) = rows_alike n func _ _ (each_alike (entry_read t ss) (entry_read t (changed m ss)) (entry_alike t m ss) n es)
+    entries_alike n es r = search (rules, rows_alike, each_alike, entry_alike)
 
     section_alike : (r : Result (Option ℕ) Reason) → Alike weakened_object (collect_section t ss r) (collect_section t (changed m ss) r)
     section_alike (Err e) = refl
@@ -188,8 +178,4 @@ module _ (t : Tables) where
 
     -- ---- the whole: refused alike, or granted with the externs made weak by some mask
     pub collect_alike : Alike weakened_object (collect t ss) (collect t (weaker_symbols m ss))
-    collect_alike =
-        let whole = collect_section t (changed m ss) (section_of t) in
-        subst (λ r. Alike weakened_object (collect t ss) r)
-        (ap (λ b. cond (tables_fit t && b) whole (Err Reason.InvalidTable)) (sym (symbols_fit_weak m ss)) ∙ ap (collect t) (sym (changed_is m ss)))
-        (cond_alike weakened_object (tables_fit t && symbols_fit ss) _ _ _ (section_alike (section_of t)))
+    collect_alike = search (rules, symbols_fit_weak, changed_is, cond_alike, section_alike)

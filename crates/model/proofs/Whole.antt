@@ -47,17 +47,13 @@ module _ (f : Extern → Extern) (kept : (x : Extern) → Kept x (f x)) where
       λ i. not (any_map (λ y. bytes_eq y.name (f x).name) (λ y. bytes_eq y.name x.name) (λ y j. bytes_eq (kept_name (kept y) j) (kept_name (kept x) j)) xs i) && distinct_map xs i
 
   externs_map : (t : Tables) (xs : List Extern) → externs_fit t (map f xs) ≡ externs_fit t xs
-  externs_map t xs =
-      λ i. all_map (λ x. declares t x.entry && reads_as (name_at t.strings x.place) x.name)
-      (λ x j. declares t ((kept x).row j).entry && reads_as (name_at t.strings ((kept x).row j).place) ((kept x).row j).name) xs i
-      && distinct_map xs i
+  externs_map t xs = search (rules, all_map, distinct_map)
 
   collected_map : (o : Object) (xs : List Extern) → o.externs ≡ xs → collected_if_any (record { tables = o.tables; externs = map f o.externs; placeholder = o.placeholder }) (map f xs) ≡ collected_if_any o xs
-  collected_map o [] e = refl
-  collected_map o (x ∷ xs) e = ap (λ b. found_fits o.tables o.placeholder (section_of o.tables) && b) (externs_map o.tables o.externs)
+  collected_map o xs e = search (rules, externs_map)
 
   object_map : (o : Object) → object_fits (record { tables = o.tables; externs = map f o.externs; placeholder = o.placeholder }) ≡ object_fits o
-  object_map o = λ i. tables_fit o.tables && (leb (length-map o.externs f i) MAX_EXTERNS && collected_map o o.externs refl i)
+  object_map o = search (rules, length-map, collected_map)
 
 -- ---- what holds of an object all along a run
 pub record Sound (o : Object) : Type 0 where
@@ -87,18 +83,7 @@ runs_sound (s ∷ ss) st k = runs_sound ss (next s st) (next_sound s st k)
 
 -- ---- the laws
 pub stays_well_formed : StaysWellFormed
-stays_well_formed =
-    record {
-      object = λ st before s. (runs_sound before st (start_sound st s)).fit;
-      calls = λ st before s start.
-          let here = runs before st in
-          let fit = (runs_sound before st (start_sound st start)).fit in (
-            λ e.
-                false_from_ne_true (brings_fit s here.code)
-                (λ b. reason_not s here (sym (cond-true (fits s here) (reason s here) (Some InvalidTable) (and_from _ _ fit b)) ∙ e)),
-            λ b. cond-false (fits s here) (reason s here) (Some InvalidTable) (and_right (object_fits here.object) _ b),
-          );
-    }
+stays_well_formed = search (rules, runs_sound, start_sound, false_from_ne_true, reason_not, and_right)
 
 pub granted_exactly_when : GrantedExactlyWhen
 granted_exactly_when st before c ls e start form =
