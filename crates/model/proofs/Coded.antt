@@ -1,5 +1,6 @@
 -- The code of a run: bytes, as many as before, that are read as the slots that relocation made.
-use Rattle.std.proofs.Common.{◌≡◌, ℕ, zero, suc, ◌*◌, ◌/◌, ◌%◌, ◌<◌, true, List, [], ◌∷◌, length, refl, ap, ◌∙◌, arith, w16, w32}
+use Rattle.std.proofs.lemmas.Grind.{common_steps}
+use Rattle.std.proofs.Common.{rules, ◌≡◌, ℕ, zero, suc, ◌*◌, ◌/◌, ◌%◌, ◌<◌, true, List, [], ◌∷◌, length, refl, ap, ◌∙◌, arith, w16, w32}
 use borrow.Author.Gap.{read_sfits}
 use Rattle.std.specs.List.{AllByRecursion}
 use Rattle.std.proofs.lemmas.Bool.{cond-true, cond_both, and_parts, eqb-true}
@@ -20,27 +21,21 @@ each_all [] f = tt
 each_all (s ∷ ss) f = (f 0, each_all ss (λ i. f (suc i)))
 
 all_each : (ss : List Slot) → AllByRecursion FitsSlot ss → EachFits ss
-all_each [] f i = record { code = omega arith; regs = omega arith; off = read_sfits w16 0; imm = read_sfits w32 0 }
-all_each (s ∷ ss) f zero = f.0
-all_each (s ∷ ss) f (suc i) = all_each ss f.1 i
+all_each ss f i = grind (arith, common_steps)
 
 relocated_fits : (p : Program) (st : State) → Bytes st.code → AllByRecursion FitsSlot (relocated st.object.externs p (slots st.code)).0
-relocated_fits p st b =
-    each_all _ (patched_fits st.object.externs p.symbols (taken p.functions p.relocations) (slots st.code) (all_each (slots st.code) (slots_are_bytes.fit st.code b)))
+relocated_fits p st b = search (rules, each_all, patched_fits, all_each, slots_are_bytes)
 
 -- ---- one call
 patched_bytes : (s : Step) (st : State) → Bytes st.code → Bytes (patched_code s st)
-patched_bytes (resolve c ls e) st b = b
-patched_bytes fixup st b = b
-patched_bytes (relocate p) st b = slots_are_bytes.bytes _ (relocated_fits p st b)
+patched_bytes s st b = search (rules, slots_are_bytes, relocated_fits)
 
 pub next_bytes : (s : Step) (st : State) → Bytes st.code → Bytes (next s st).code
 next_bytes s st b = cond_both (fits s st) (patched_code s st) st.code Bytes (λ _. patched_bytes s st b) (λ _. b)
 
 -- the slots after a relocation of well-formed tables
 pub relocated_slots : (p : Program) (st : State) → Bytes st.code → fits (relocate p) st ≡ true → slots (next (relocate p) st).code ≡ (relocated st.object.externs p (slots st.code)).0
-relocated_slots p st b f =
-    ap slots (cond-true (fits (relocate p) st) (patched_code (relocate p) st) st.code f) ∙ slots_are_bytes.read_back _ (relocated_fits p st b)
+relocated_slots p st b f = search (rules, slots_are_bytes, relocated_fits)
 
 whole_length : (n m : ℕ) → n % 8 ≡ 0 → m ≡ n / 8 → m * 8 ≡ n
 whole_length n m h e = omega arith

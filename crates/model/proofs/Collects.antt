@@ -1,8 +1,13 @@
 -- A granted collection makes a well-formed object.
-use Rattle.std.proofs.Common.{◌≡◌, ℕ, zero, suc, ◌<◌, Bool, true, false, cond, ◌&&◌, ◌||◌, ltb, leb, ◌⊎◌, List, [], ◌∷◌, ◌++◌, length, is_some, Some, None, Ok, Err, Option, Result, sym, refl, ap, ◌∙◌, subst, inl, inr, ⊎_elim, arith}
+use Rattle.std.proofs.lemmas.Grind.{common_steps}
+use Rattle.std.proofs.Common.{rules, ◌≡◌, ℕ, zero, suc, ◌<◌, Bool, true, false, cond, ◌&&◌, ◌||◌, ltb, leb, ◌⊎◌, List, [], ◌∷◌, ◌++◌, length, is_some, Some, None, Ok, Err, Option, Result, sym, refl, ap, ◌∙◌, subst, inl, inr, ⊎_elim, arith}
+use Rattle.std.specs.Option.{option_or}
+use Rattle.std.specs.List.{list_any}
 use Rattle.std.specs.Str.{bytes_eq}
 use Rattle.std.proofs.lemmas.List.{length_push, get_or_push, drop_at}
 use Rattle.std.proofs.lemmas.Bool.{true≢false, cases_Bool, cond-true, cond-false, and_parts, and_from, or_left, or_right, or_cases, ltb-true}
+use Rattle.std.proofs.lemmas.Option.{none-some, same_Some}
+use Rattle.std.proofs.lemmas.Slice.Eq.{bytes_eq-Decides}
 use Rattle.model.specs.Added.{placeholder_row, placeholder_name, added, first_int, with_int}
 use Rattle.model.specs.Chain.{no_row, type_at, chain, resolve_type}
 use Rattle.model.specs.Collect.{section_of, entries_of, has_func, fresh, symbol_named, chain_read, symbol_read, name_read, row_read, entry_read, duplicate, room_for_func, room_refusal, made, granted_unless, collect_rows, collect_entries, collect_section, collect}
@@ -10,7 +15,7 @@ use Rattle.model.specs.CollectLaws.{Declares}
 use Rattle.model.specs.Collected.{Distinct, Collected, object_fits}
 use Rattle.model.specs.Externs.{Extern, Object}
 use Rattle.model.specs.Kinds.{is_func, is_var}
-use Rattle.model.specs.Lists.{In, any, or_else, with_first, each, InTurn}
+use Rattle.model.specs.Lists.{In, with_first, each, InTurn}
 use Rattle.model.specs.Names.{to_zero, name_at}
 use Rattle.model.specs.StepLaws.{CollectionCollects}
 use Rattle.model.specs.Tables.{Tables, Symbols, MAX_EXTERNS, tables_fit, symbols_fit}
@@ -19,16 +24,14 @@ use Rattle.model.specs.declared.btf.ChainError.{ChainError}
 use Rattle.model.specs.declared.btf.DataSecEntry.{DataSecEntry}
 use Rattle.model.specs.declared.refusal.Reason.{Reason}
 use Rattle.model.specs.declared.rows.Symbol.{Symbol}
-use Rattle.model.proofs.Lookups.{some_not, some_same, ok_same, err_not, any_none, is_same}
+use Rattle.model.proofs.Lookups.{ok_same, err_not, any_none, or_else_parts}
 use Rattle.model.proofs.Tested.{collected_test}
 use Rattle.model.proofs.Grown.{Fits, fits_is, is_fit, Longer, longer_same, longer_added, longer_on, longer_section, longer_entries, longer_name, longer_at, Declared, is_declared, longer_declared, section_is, first_below, int_longer, int_below, placeholder_fits_in}
 
 -- ---- what each entry came to
 module _ {X Y R : Type 0} (f : ℕ → X → Result Y R) where
   first_parts : (a : Result Y R) (b : Result (List Y) R) (ys : List Y) → with_first a b ≡ Ok ys → (y : Y) × (zs : List Y) × (a ≡ Ok y) × (b ≡ Ok zs) × (ys ≡ y ∷ zs)
-  first_parts (Err e) b ys h = absurd (err_not e ys h)
-  first_parts (Ok y) (Err e) ys h = absurd (err_not e ys h)
-  first_parts (Ok y) (Ok zs) ys h = (y, zs, refl, refl, sym (ok_same _ _ h))
+  first_parts a b ys h = search rules
 
   pub each_in : (n : ℕ) (xs : List X) (ys : List Y) → each f n xs ≡ Ok ys → (y : Y) → In y ys → (m : ℕ) × (x : X) × In x xs × (f m x ≡ Ok y)
   each_in n [] ys h y i = absurd (subst (In y) (sym (ok_same _ _ h)) i)
@@ -52,20 +55,11 @@ module _ {X Y R : Type 0} (f : ℕ → X → Result Y R) where
 -- ---- one entry
 pub chain_below : (n : ℕ) (ts : List BtfType) (id target : ℕ) → chain n ts id ≡ Ok target → id < length ts
 unfolding chain
-chain_below zero ts id target h = absurd (err_not _ _ h)
-chain_below (suc n) ts id target h =
-    ⊎_elim (λ e. ltb-true _ _ e) (λ e. absurd (err_not _ _ (sym (cond-false (ltb id (length ts)) _ _ e) ∙ h))) (cases_Bool (ltb id (length ts)))
+chain_below n ts id target h = search rules
 
 -- the row of an entry that declares
 pub entry_declared : (t : Tables) (ss : Symbols) (e : DataSecEntry) (x : Extern) → Declares t ss e x → Declared t e.btf_type
-entry_declared t ss e x d =
-    let row = type_at t.types e.btf_type in
-    record {
-      below = d.row;
-      kind = ⊎_elim (or_left (is_func row) (is_var row)) (or_right (is_func row) (is_var row)) d.kind;
-      name = ap is_some d.name;
-      type = chain_below 32 t.types row.size_or_type d.end d.chain;
-    }
+entry_declared t ss e x d = search (rules, or_left, or_right, chain_below)
 
 module _ (t : Tables) (ss : Symbols) (e : DataSecEntry) (n : ℕ) (x : Extern) where
   abbrev row : BtfType
@@ -98,23 +92,17 @@ module _ (t : Tables) (ss : Symbols) (e : DataSecEntry) (n : ℕ) (x : Extern) w
 
     symbol_is : (name : List ℕ) (o : Option (ℕ × Symbol)) → name_at t.strings row.name_offset ≡ Some name → symbol_named ss name ≡ o
         → symbol_read t.types n e.btf_type row name o ≡ Ok x → Declares t ss e x
-    symbol_is name None s m h = absurd (err_not _ _ h)
-    symbol_is name (Some w) s m h = chain_is name w (resolve_type t.types row.size_or_type) s m refl h
+    symbol_is name o s m h = search (rules, err_not, chain_is)
 
     name_is : (o : Option (List ℕ)) → name_at t.strings row.name_offset ≡ o → name_read t.types ss n e.btf_type row o ≡ Ok x → Declares t ss e x
-    name_is None s h = absurd (err_not _ _ h)
-    name_is (Some name) s h = symbol_is name (symbol_named ss name) s refl h
+    name_is o s h = search (rules, err_not, symbol_is)
 
   row_is : e.btf_type < length t.types → row_read t ss n e.btf_type row ≡ Ok x → Declares t ss e x
-  row_is below h =
-      ⊎_elim (λ k. name_is below k (name_at t.strings row.name_offset) refl (sym (cond-true (is_func row || is_var row) _ _ k) ∙ h))
-      (λ k. absurd (err_not _ _ (sym (cond-false (is_func row || is_var row) _ _ k) ∙ h))) (cases_Bool (is_func row || is_var row))
+  row_is below h = search (rules, name_is, err_not)
 
   -- an entry that reads declares what it reads as
   pub entry_is : entry_read t ss n e ≡ Ok x → Declares t ss e x
-  entry_is h =
-      ⊎_elim (λ b. row_is (ltb-true _ _ b) (sym (cond-true (ltb e.btf_type (length t.types)) _ _ b) ∙ h))
-      (λ b. absurd (err_not _ _ (sym (cond-false (ltb e.btf_type (length t.types)) _ _ b) ∙ h))) (cases_Bool (ltb e.btf_type (length t.types)))
+  entry_is h = search (rules, row_is, ltb-true, err_not)
 
 -- ---- a Func among the entries
 pub some_func : (ts : List BtfType) (n : ℕ) (es : List DataSecEntry) → has_func ts n es ≡ Ok true → (e : DataSecEntry) × In e es × (is_func (type_at ts e.btf_type) ≡ true)
@@ -141,20 +129,19 @@ no_func ts n (x ∷ es) h e i =
 
 -- ---- names apart
 unless_parts : (b : Bool) (r : Reason) (o : Option Reason) → cond b (Some r) o ≡ None → (b ≡ false) × (o ≡ None)
-unless_parts true r o h = absurd (some_not r h)
-unless_parts false r o h = (refl, h)
+unless_parts b r o h = search rules
 
 apart : (before : List Extern) (n : ℕ) (xs : List Extern) → duplicate before n xs ≡ None → (y x : Extern) → In y before → In x xs → y.name ≡ x.name → ⊥
 apart before n [] h y x j i e = i
 apart before n (z ∷ xs) h y x j i e =
-    let p = unless_parts (any (λ (w : Extern). bytes_eq w.name z.name) before) _ _ h in
-    ⊎_elim (λ q. true≢false (sym (is_same y.name z.name (e ∙ ap (λ (w : Extern). w.name) (sym q))) ∙ any_none (λ (w : Extern). bytes_eq w.name z.name) before p.0 y j))
+    let p = unless_parts (list_any (λ (w : Extern). bytes_eq w.name z.name) before) _ _ h in
+    ⊎_elim (λ q. true≢false (sym ((bytes_eq-Decides y.name z.name).1 (e ∙ ap (λ (w : Extern). w.name) (sym q))) ∙ any_none (λ (w : Extern). bytes_eq w.name z.name) before p.0 y j))
     (λ k. apart (z ∷ before) (suc n) xs p.1 y x (inr j) k e) i
 
 pub names_apart : (before : List Extern) (n : ℕ) (xs : List Extern) → duplicate before n xs ≡ None → Distinct xs
 names_apart before n [] h = tt
 names_apart before n (x ∷ xs) h =
-    let p = unless_parts (any (λ (w : Extern). bytes_eq w.name x.name) before) _ _ h in
+    let p = unless_parts (list_any (λ (w : Extern). bytes_eq w.name x.name) before) _ _ h in
     ((λ y i e. apart (x ∷ before) (suc n) xs p.1 x y (inl refl) i (sym e)), names_apart (x ∷ before) (suc n) xs p.1)
 
 -- ---- a granted collection, stage by stage
@@ -163,56 +150,39 @@ pub record Passed (t : Tables) (ss : Symbols) (o : Object) : Type 0 where
   pub func : Bool
   pub rows : List Extern
   pub found : section_of t ≡ Ok (Some section)
-  pub has : has_func t.types (type_at t.types section).start (entries_of t section) ≡ Ok func
-  pub read : each (entry_read t ss) (type_at t.types section).start (entries_of t section) ≡ Ok rows
-  pub apart : duplicate [] (type_at t.types section).start rows ≡ None
+  pub has : has_func t.types (type_at t.types section).parts.start (entries_of t section) ≡ Ok func
+  pub read : each (entry_read t ss) (type_at t.types section).parts.start (entries_of t section) ≡ Ok rows
+  pub apart : duplicate [] (type_at t.types section).parts.start rows ≡ None
   pub few : leb (length rows) MAX_EXTERNS ≡ true
   pub room : room_for_func func t ≡ true
   pub is : made func rows t ≡ o
 
-else_parts : (x y : Option Reason) → or_else x y ≡ None → (x ≡ None) × (y ≡ None)
-else_parts None y e = (refl, e)
-else_parts (Some x) y e = absurd (some_not x e)
-
 room_is : (func : Bool) (xs : List Extern) (t : Tables) → room_refusal func xs t ≡ None → (leb (length xs) MAX_EXTERNS ≡ true) × (room_for_func func t ≡ true)
-room_is func xs t h =
-    ⊎_elim (λ e. and_parts _ _ e) (λ e. absurd (some_not _ (sym (cond-false (leb (length xs) MAX_EXTERNS && room_for_func func t) _ _ e) ∙ h)))
-    (cases_Bool (leb (length xs) MAX_EXTERNS && room_for_func func t))
+room_is func xs t h = search rules
 
 unless_is : (e : Option Reason) (x o : Object) → granted_unless e x ≡ Ok o → (e ≡ None) × (x ≡ o)
-unless_is None x o h = (refl, ok_same _ _ h)
-unless_is (Some e) x o h = absurd (err_not _ _ h)
+unless_is e x o h = search rules
 
 module _ (t : Tables) (ss : Symbols) (o : Object) where
   module _ (d : ℕ) (found : section_of t ≡ Ok (Some d)) where
     abbrev at : ℕ
-    at = (type_at t.types d).start
+    at = (type_at t.types d).parts.start
 
     rows_are : (func : Bool) → has_func t.types at (entries_of t d) ≡ Ok func
         → (r : Result (List Extern) Reason) → each (entry_read t ss) at (entries_of t d) ≡ r → collect_rows t at func r ≡ Ok o → Passed t ss o
-    rows_are func f (Err e) r h = absurd (err_not _ _ h)
-    rows_are func f (Ok xs) r h =
-        let u = unless_is (or_else (duplicate [] at xs) (room_refusal func xs t)) (made func xs t) o h in
-        let p = else_parts (duplicate [] at xs) (room_refusal func xs t) u.0 in
-        let q = room_is func xs t p.1 in
-        record { section = d; func = func; rows = xs; found = found; has = f; read = r; apart = p.0; few = q.0; room = q.1; is = u.1 }
+    rows_are func f r2 r h = search rules
 
     entries_are : (f : Result Bool Reason) → has_func t.types at (entries_of t d) ≡ f → collect_entries t ss at (entries_of t d) f ≡ Ok o → Passed t ss o
-    entries_are (Err e) f h = absurd (err_not _ _ h)
-    entries_are (Ok func) f h = rows_are func f (each (entry_read t ss) at (entries_of t d)) refl h
+    entries_are f2 f h = search rules
 
   section_came : (r : Result (Option ℕ) Reason) → section_of t ≡ r → collect_section t ss r ≡ Ok o → ((section_of t ≡ Ok None) × (made false [] t ≡ o)) ⊎ Passed t ss o
-  section_came (Err e) s h = absurd (err_not _ _ h)
-  section_came (Ok None) s h = inl (s, ok_same _ _ h)
-  section_came (Ok (Some d)) s h = inr (entries_are d s (has_func t.types (at d s) (entries_of t d)) refl h)
+  section_came r s h = search rules
 
   pub collect_fits : collect t ss ≡ Ok o → (tables_fit t ≡ true) × (symbols_fit ss ≡ true) × (collect_section t ss (section_of t) ≡ Ok o)
-  collect_fits h =
-      ⊎_elim (λ e. let p = and_parts (tables_fit t) (symbols_fit ss) e in (p.0, p.1, sym (cond-true (tables_fit t && symbols_fit ss) _ _ e) ∙ h))
-      (λ e. absurd (err_not _ _ (sym (cond-false (tables_fit t && symbols_fit ss) _ _ e) ∙ h))) (cases_Bool (tables_fit t && symbols_fit ss))
+  collect_fits h = grind (arith, common_steps)
 
   pub collect_passed : collect t ss ≡ Ok o → ((section_of t ≡ Ok None) × (made false [] t ≡ o)) ⊎ Passed t ss o
-  collect_passed h = section_came (section_of t) refl (collect_fits h).2
+  collect_passed h = grind (arith, common_steps)
 
 -- ---- the object made
 -- a new placeholder declares, and is a global Var
@@ -222,27 +192,11 @@ record New (t : Tables) (p : ℕ) : Type 0 where
   global : (type_at t.types p).«data» ≡ 1
 
 new_placeholder : (int : ℕ) (t : Tables) → int < length t.types → New (added (placeholder_row int) placeholder_name t) (length t.types)
-new_placeholder int t lt =
-    let u = placeholder_row int (length t.strings) in
-    let n = length_push t.types u in
-    let row : type_at (t.types ++ u ∷ []) (length t.types) ≡ u = get_or_push t.types u no_row (length t.types) refl in
-    let name : name_at (t.strings ++ placeholder_name) (length t.strings) ≡ to_zero placeholder_name = ap to_zero (drop_at t.strings placeholder_name (length t.strings) refl) in
-    record {
-      declared =
-          record {
-            below = omega arith;
-            kind = ap (λ r. is_func r || is_var r) row;
-            name = ap (λ r. is_some (name_at (t.strings ++ placeholder_name) r.name_offset)) row ∙ ap is_some name;
-            type = subst (λ r. r.size_or_type < length (t.types ++ u ∷ [])) (sym row) (omega arith);
-          };
-      var = ap is_var row;
-      global = ap (λ r. r.«data») row;
-    }
+new_placeholder int t lt = grind (arith, common_steps)
 
 module _ (t : Tables) (xs : List Extern) where
   pub made_externs : (func : Bool) → (made func xs t).externs ≡ xs
-  made_externs true = refl
-  made_externs false = refl
+  made_externs func = search rules
 
   made_longer : (func : Bool) → Longer t (made func xs t).tables
   made_longer true =
@@ -257,8 +211,8 @@ module _ (t : Tables) (xs : List Extern) where
   made_new : (func : Bool) (p : ℕ) → (made func xs t).placeholder ≡ Some p → New (made func xs t).tables p
   made_new true p e =
       let k = with_int (first_int t.types) t in
-      subst (New (made true xs t).tables) (some_same (length k.1.types) p e) (new_placeholder k.0 k.1 (int_below t (first_int t.types) (first_below t.types)))
-  made_new false p e = absurd (some_not p (sym e))
+      subst (New (made true xs t).tables) (same_Some (length k.1.types) p e) (new_placeholder k.0 k.1 (int_below t (first_int t.types) (first_below t.types)))
+  made_new false p e = absurd (none-some p e)
 
 module _ (t : Tables) (ss : Symbols) (o : Object) (c : Passed t ss o) where
   abbrev new : Object
@@ -268,16 +222,15 @@ module _ (t : Tables) (ss : Symbols) (o : Object) (c : Passed t ss o) where
   places = entries_of t c.section
 
   pub passed_read : (x : Extern) → In x c.rows → (e : DataSecEntry) × In e places × Declares t ss e x
-  passed_read x i = let r = each_in (entry_read t ss) _ places c.rows c.read x i in (r.1, r.2, entry_is t ss r.1 r.0 x r.3)
+  passed_read x i = search (rules, each_in, entry_is)
 
   place_declared : (e : DataSecEntry) → In e places → Declared t e.btf_type
   place_declared e i = let r = in_each (entry_read t ss) _ places c.rows c.read e i in entry_declared t ss e r.1 (entry_is t ss e r.0 r.1 r.2)
 
   -- a Func implies a placeholder
-  func_placed : (func : Bool) → has_func t.types (type_at t.types c.section).start places ≡ Ok func
+  func_placed : (func : Bool) → has_func t.types (type_at t.types c.section).parts.start places ≡ Ok func
       → (e : DataSecEntry) → In e places → is_func (type_at t.types e.btf_type) ≡ true → is_some (made func c.rows t).placeholder ≡ true
-  func_placed true h e i f = refl
-  func_placed false h e i f = absurd (true≢false (sym f ∙ no_func t.types _ places h e i))
+  func_placed func h e i f = search (rules, true≢false, no_func)
 
   new_collected : Collected new
   new_collected =
@@ -340,7 +293,7 @@ module _ (t : Tables) (ss : Symbols) (o : Object) (h : collect t ss ≡ Ok o) wh
 
   pub collect_placeholder : (p : ℕ) → o.placeholder ≡ Some p → (is_var (type_at o.tables.types p) ≡ true) × ((type_at o.tables.types p).«data» ≡ 1)
   collect_placeholder p q =
-      ⊎_elim (λ e. absurd (some_not p (sym q ∙ sym (ap (λ (y : Object). y.placeholder) e.1))))
+      ⊎_elim (λ e. absurd (none-some p (sym (sym q ∙ sym (ap (λ (y : Object). y.placeholder) e.1)))))
       (λ (c : Passed t ss o).
       let n = made_new t c.rows c.func p (ap (λ (y : Object). y.placeholder) c.is ∙ q) in
       subst (λ (y : Object). (is_var (type_at y.tables.types p) ≡ true) × ((type_at y.tables.types p).«data» ≡ 1)) c.is (n.var, n.global))

@@ -1,9 +1,11 @@
 -- A granted fixup keeps an object well-formed, and leaves the rows that it is not about.
-use Rattle.std.proofs.Common.{◌≡◌, ℕ, zero, suc, ◌+◌, ◌*◌, ◌<◌, ◌≤◌, Bool, true, false, cond, not, ◌&&◌, ◌||◌, eqb, leb, ◌⊎◌, List, [], ◌∷◌, ◌++◌, map, length, get_or, take, drop, set, is_some, Some, None, Ok, Option, sym, refl, ap, ◌∙◌, subst, inl, inr, ⊎_elim, arith}
+use Rattle.std.proofs.lemmas.Grind.{common_steps}
+use Rattle.std.proofs.Common.{rules, ◌≡◌, ℕ, zero, suc, ◌+◌, ◌*◌, ◌<◌, ◌≤◌, Bool, true, false, cond, not, ◌&&◌, ◌||◌, eqb, leb, ◌⊎◌, List, [], ◌∷◌, ◌++◌, map, length, get_or, take, drop, set, is_some, Some, None, Ok, Option, sym, refl, ap, ◌∙◌, subst, inl, inr, ⊎_elim, arith}
 use lib.Seq.{take-nil, drop-nil}
 use Rattle.std.specs.List.{range_with_len}
 use Rattle.std.proofs.lemmas.List.{length-append, length-set, length-map, length-take, length-drop, get_or_append_left, get_or-set_other}
 use Rattle.std.proofs.lemmas.Bool.{false≢true, cond-false, cond_both, and_parts, and_from, and_left, and_right, or_cases, eqb-true, eq-eqb, ne_eqb}
+use Rattle.std.proofs.lemmas.Option.{none-some, same_Some}
 use Rattle.model.specs.Added.{with_int}
 use Rattle.model.specs.Chain.{no_row, type_at}
 use Rattle.model.specs.Collect.{section_of, entries_of}
@@ -15,24 +17,23 @@ use Rattle.model.specs.Lists.{In}
 use Rattle.model.specs.Names.{name_at}
 use Rattle.model.specs.Runs.{granted}
 use Rattle.model.specs.Runs.Step.{fixup}
+use Rattle.model.specs.Spans.{part, end_of, Outside}
 use Rattle.model.specs.StepLaws.{NotOf, Leaves, param_at, FixupLeavesOtherRows}
-use Rattle.model.specs.Tables.{Tables, MAX_EXTERNS, tables_fit}
+use Rattle.model.specs.Tables.{Tables, MAX_EXTERNS, parts_of, tables_fit}
 use Rattle.model.specs.declared.btf.BtfType.{BtfType}
 use Rattle.model.specs.declared.btf.BtfParam.{BtfParam}
 use Rattle.model.specs.declared.btf.DataSecEntry.{DataSecEntry}
 use Rattle.model.specs.declared.refusal.Reason.{Reason}
-use Rattle.model.proofs.Lookups.{some_not, some_same, ok_same}
+use Rattle.model.specs.declared.rows.Span.{Span}
+use Rattle.model.proofs.Lookups.{ok_same}
 use Rattle.model.proofs.Tested.{collected_test, collected_is_tested}
-use Rattle.model.proofs.Grown.{Shape, shape_same, alike_length, alike_at, alike_set, Fits, fits_is, is_fit, Rewritten, rewritten_same, rewritten_on, rewritten_fits, rewritten_section, Longer, longer_section, longer_entries, longer_name, longer_at, Declared, declared_is, is_declared, longer_declared, section_is, span_inside, first_below, int_longer, int_below, int_fits}
+use Rattle.model.proofs.Followed.{follow_in}
+use Rattle.model.proofs.Grown.{Shape, shape_same, alike_length, alike_at, alike_set, Fits, fits_is, is_fit, Rewritten, rewritten_same, rewritten_on, rewritten_fits, rewritten_section, Longer, longer_section, longer_entries, longer_name, longer_at, Declared, declared_is, is_declared, longer_declared, section_is, parts_in, first_below, int_longer, int_below, int_fits}
 
 -- ---- lists
 -- what stands in a list where one place was set
 pub at_set : {X : Type 0} (xs : List X) (i : ℕ) (v d : X) (k : ℕ) → ((k ≡ i) × (i < length xs) × (get_or (set xs i v) k d ≡ v)) ⊎ (get_or (set xs i v) k d ≡ get_or xs k d)
-at_set [] i v d k = inr refl
-at_set (x ∷ xs) zero v d zero = inl (refl, omega arith, refl)
-at_set (x ∷ xs) zero v d (suc k) = inr refl
-at_set (x ∷ xs) (suc i) v d zero = inr refl
-at_set (x ∷ xs) (suc i) v d (suc k) = ⊎_elim (λ r. let l = r.1 in inl (ap suc r.0, omega arith, r.2)) (λ e. inr e) (at_set xs i v d k)
+at_set xs i v d k = grind (arith, common_steps)
 
 -- a place of a part
 pub in_part : {X : Type 0} (s n : ℕ) (xs : List X) (d x : X) → In x (take n (drop s xs)) → (k : ℕ) × (k < n) × (get_or xs (s + k) d ≡ x)
@@ -68,25 +69,14 @@ module _ {X : Type 0} (f : X → X) where
   mapped_part s n xs = take s xs ++ (map f (take n (drop s xs)) ++ drop (s + n) xs)
 
   pub part_length : (s n : ℕ) (xs : List X) → length (mapped_part s n xs) ≡ length xs
-  part_length s n xs =
-      let a = length-append (take s xs) (map f (take n (drop s xs)) ++ drop (s + n) xs) in
-      let b = length-append (map f (take n (drop s xs))) (drop (s + n) xs) in
-      let c = length-map (take n (drop s xs)) f in
-      let e = length-take n (drop s xs) in
-      let g = length-drop s xs in
-      let h = length-drop (s + n) xs in
-      let k = length-take s xs in
-      omega arith
+  part_length s n xs = grind (arith, common_steps)
 
   -- what stands at a place is as before, or in the part and mapped
   abbrev AtPart : ℕ → ℕ → List X → List X → X → ℕ → Type 0
   AtPart s n xs ys d k = (get_or ys k d ≡ get_or xs k d) ⊎ ((s ≤ k) × (k < s + n) × (get_or ys k d ≡ f (get_or xs k d)))
 
   front_at : (n : ℕ) (xs : List X) (d : X) (k : ℕ) → AtPart zero n xs (map f (take n xs) ++ drop n xs) d k
-  front_at zero xs d k = inl refl
-  front_at (suc n) [] d k = inl refl
-  front_at (suc n) (x ∷ xs) d zero = inr (omega arith, omega arith, refl)
-  front_at (suc n) (x ∷ xs) d (suc k) = ⊎_elim (λ e. inl e) (λ r. let l = r.1 in inr (omega arith, omega arith, r.2)) (front_at n xs d k)
+  front_at n xs d k = grind (arith, common_steps)
 
   pub part_at : (s n : ℕ) (xs : List X) (d : X) (k : ℕ) → AtPart s n xs (mapped_part s n xs) d k
   part_at zero n xs d k =
@@ -101,8 +91,7 @@ module _ {X : Type 0} (f : X → X) where
 
 -- ---- one entry
 func_by : (P : Tables → Type 0) (p : Option ℕ) (at i id : ℕ) (t : Tables) → ((q : ℕ) → p ≡ Some q → P (fix_func q at i id t)) → (p ≡ None → P t) → P (fix_func_by p at i id t)
-func_by P None at i id t f n = n refl
-func_by P (Some q) at i id t f n = f q refl
+func_by P p at i id t f n = search rules
 
 module _ (p : Option ℕ) (int at i : ℕ) (t : Tables) where
   abbrev pub id_at : ℕ
@@ -116,79 +105,28 @@ module _ (p : Option ℕ) (int at i : ℕ) (t : Tables) where
       → (p ≡ None → is_func row_at ≡ true → P t)
       → (is_func row_at ≡ false → P (fix_var int at i id_at t))
       → P (fix_entry p int at i t)
-  by_entry P f n v =
-      cond_both (is_func row_at) (fix_func_by p at i id_at t) (fix_var int at i id_at t) P
-      (λ e. func_by P p at i id_at t (λ q s. f q s e) (λ s. n s e)) v
+  by_entry P f n v = search rules
 
 params_length : (name : ℕ) (proto : BtfType) (b : Bool) (ps : List BtfParam) → length (cond b (named_params name proto ps) ps) ≡ length ps
-params_length name proto true ps = part_length (named_param name) proto.start proto.len ps
-params_length name proto false ps = refl
+params_length name proto b ps = grind (arith, common_steps)
 
 -- the rows keep their shape
 pub entry_rewritten : (p : Option ℕ) (int at i : ℕ) (t : Tables) → Rewritten t (fix_entry p int at i t)
-entry_rewritten p int at i t =
-    let id = id_at p int at i t in
-    let row = row_at p int at i t in
-    by_entry p int at i t (Rewritten t)
-    (λ q s e.
-    record {
-      types = alike_set t.types id (global_func row) (record { kind = refl; name = refl; start = refl; len = refl });
-      entries = length-set t.entries at (placed q i);
-      params = params_length (type_at t.types q).name_offset (type_at t.types row.size_or_type) (is_func_proto (type_at t.types row.size_or_type)) t.params;
-      strings = refl;
-      header = refl;
-    })
-    (λ s e. rewritten_same t)
-    (λ e.
-    record {
-      types = alike_set t.types id (global_var int row) (record { kind = refl; name = refl; start = refl; len = refl });
-      entries = length-set t.entries at (placed id i);
-      params = refl;
-      strings = refl;
-      header = refl;
-    })
+entry_rewritten p int at i t = search (rules, by_entry, alike_set, length-set, params_length, rewritten_same)
 
 -- a row has its type, or becomes of the int row
 pub entry_size : (p : Option ℕ) (int at i : ℕ) (t : Tables) (x : ℕ)
     → ((type_at (fix_entry p int at i t).types x).size_or_type ≡ (type_at t.types x).size_or_type) ⊎ ((type_at (fix_entry p int at i t).types x).size_or_type ≡ int)
-entry_size p int at i t x =
-    let id = id_at p int at i t in
-    let row = row_at p int at i t in
-    by_entry p int at i t (λ u. ((type_at u.types x).size_or_type ≡ (type_at t.types x).size_or_type) ⊎ ((type_at u.types x).size_or_type ≡ int))
-    (λ q s e.
-    inl (⊎_elim (λ r. ap (λ (z : BtfType). z.size_or_type) r.2 ∙ ap (λ j. (type_at t.types j).size_or_type) (sym r.0)) (λ r. ap (λ (z : BtfType). z.size_or_type) r)
-    (at_set t.types id (global_func row) no_row x)))
-    (λ s e. inl refl)
-    (λ e.
-    ⊎_elim (λ r. inr (ap (λ (z : BtfType). z.size_or_type) r.2)) (λ r. inl (ap (λ (z : BtfType). z.size_or_type) r)) (at_set t.types id (global_var int row) no_row x))
+entry_size p int at i t x = search (rules, by_entry, at_set)
 
 -- a Func keeps its type
 pub entry_func : (p : Option ℕ) (int at i : ℕ) (t : Tables) (x : ℕ) → is_func (type_at t.types x) ≡ true
     → (type_at (fix_entry p int at i t).types x).size_or_type ≡ (type_at t.types x).size_or_type
-entry_func p int at i t x h =
-    let id = id_at p int at i t in
-    let row = row_at p int at i t in
-    by_entry p int at i t (λ u. (type_at u.types x).size_or_type ≡ (type_at t.types x).size_or_type)
-    (λ q s e.
-    ⊎_elim (λ r. ap (λ (z : BtfType). z.size_or_type) r.2 ∙ ap (λ j. (type_at t.types j).size_or_type) (sym r.0)) (λ r. ap (λ (z : BtfType). z.size_or_type) r)
-    (at_set t.types id (global_func row) no_row x))
-    (λ s e. refl)
-    (λ e.
-    ⊎_elim (λ r. absurd (false≢true (sym e ∙ ap (λ j. is_func (type_at t.types j)) (sym r.0) ∙ h))) (λ r. ap (λ (z : BtfType). z.size_or_type) r)
-    (at_set t.types id (global_var int row) no_row x))
+entry_func p int at i t x h = search (rules, by_entry, at_set, false≢true)
 
 -- what declares does so in rewritten tables where its type is a row
 pub rewritten_declared : (t u : Tables) → Rewritten t u → (x : ℕ) → Declared t x → (type_at u.types x).size_or_type < length t.types → Declared u x
-rewritten_declared t u r x d lt =
-    let n = alike_length t.types u.types r.types in
-    let s = alike_at t.types u.types r.types x in
-    let b = d.below in
-    record {
-      below = omega arith;
-      kind = ap (λ k. eqb (kind_number k) 12 || eqb (kind_number k) 14) s.kind ∙ d.kind;
-      name = (λ j. is_some (name_at (r.strings j) (s.name j))) ∙ d.name;
-      type = omega arith;
-    }
+rewritten_declared t u r x d lt = search (rules, alike_length, alike_at)
 
 pub entry_declared : (p : Option ℕ) (int at i : ℕ) (t : Tables) → int < length t.types → (x : ℕ) → Declared t x → Declared (fix_entry p int at i t) x
 entry_declared p int at i t lt x d =
@@ -199,16 +137,7 @@ entry_declared p int at i t lt x d =
 -- an entry is as before, or stands for the same id, or for the placeholder
 pub entry_id : (p : Option ℕ) (int at i : ℕ) (t : Tables) (Q : ℕ → Type 0) (m : ℕ)
     → ((q : ℕ) → p ≡ Some q → Q q) → Q (entry_at t.entries m).btf_type → Q (entry_at (fix_entry p int at i t).entries m).btf_type
-entry_id p int at i t Q m f h =
-    let id = id_at p int at i t in
-    by_entry p int at i t (λ u. Q (entry_at u.entries m).btf_type)
-    (λ q s e.
-    ⊎_elim (λ r. subst (λ (z : DataSecEntry). Q z.btf_type) (sym r.2) (f q s)) (λ r. subst (λ (z : DataSecEntry). Q z.btf_type) (sym r) h)
-    (at_set t.entries at (placed q i) (record { btf_type = 0; offset = 0; size = 0 }) m))
-    (λ s e. h)
-    (λ e.
-    ⊎_elim (λ r. subst (λ (z : DataSecEntry). Q z.btf_type) (sym r.2) (subst (λ j. Q (entry_at t.entries j).btf_type) r.0 h)) (λ r. subst (λ (z : DataSecEntry). Q z.btf_type) (sym r) h)
-    (at_set t.entries at (placed id i) (record { btf_type = 0; offset = 0; size = 0 }) m))
+entry_id p int at i t Q m f h = search (rules, by_entry, at_set)
 
 -- ---- the entries of the section, in order
 module _ (p : Option ℕ) (int start : ℕ) where
@@ -240,39 +169,30 @@ module _ (p : Option ℕ) (int start : ℕ) where
 
 -- ---- the section
 pub not_both : (r : BtfType) → is_data_sec r ≡ true → (is_func r || is_var r) ≡ true → ⊥
-not_both r s h =
-    let a = eqb-true (kind_number r.kind) 15 s in
-    ⊎_elim (λ e. let b = eqb-true (kind_number r.kind) 12 e in omega arith) (λ e. let b = eqb-true (kind_number r.kind) 14 e in omega arith) (or_cases _ _ h)
+not_both r s h = search rules
 
 module _ (p : Option ℕ) (d int : ℕ) (t : Tables) where
   abbrev pub begin : ℕ
-  begin = (type_at t.types d).start
+  begin = (type_at t.types d).parts.start
 
   abbrev pub size : ℕ
-  size = (type_at t.types d).len
+  size = (type_at t.types d).parts.len
 
   abbrev pub gone : Tables
   gone = after p int begin t size
 
   pub section_row_rewritten : Rewritten gone (fix_section p d int t)
-  section_row_rewritten =
-      record {
-        types = alike_set gone.types d (sized (4 * size) (type_at gone.types d)) (record { kind = refl; name = refl; start = refl; len = refl });
-        entries = refl;
-        params = refl;
-        strings = refl;
-        header = refl;
-      }
+  section_row_rewritten = search (rules, alike_set)
 
   pub section_rewritten : Rewritten t (fix_section p d int t)
-  section_rewritten = rewritten_on t gone (fix_section p d int t) (entries_rewritten p int begin t size) section_row_rewritten
+  section_rewritten = search (rules, rewritten_on, entries_rewritten, section_row_rewritten)
 
   -- another row than the section's
   pub section_other : (x : ℕ) → (x ≡ d → ⊥) → type_at (fix_section p d int t).types x ≡ type_at gone.types x
-  section_other x n = get_or-set_other gone.types d x (sized (4 * size) (type_at gone.types d)) no_row n
+  section_other x n = search rules
 
   pub declared_other : is_data_sec (type_at t.types d) ≡ true → (x : ℕ) → Declared t x → x ≡ d → ⊥
-  declared_other s x h e = not_both (type_at t.types d) s (subst (λ j. (is_func (type_at t.types j) || is_var (type_at t.types j)) ≡ true) e h.kind)
+  declared_other s x h e = search rules
 
   pub section_declared : int < length t.types → is_data_sec (type_at t.types d) ≡ true → (x : ℕ) → Declared t x → Declared (fix_section p d int t) x
   section_declared lt s x h =
@@ -286,7 +206,7 @@ module _ (p : Option ℕ) (d int : ℕ) (t : Tables) where
   section_ids fit Q f h e i =
       let none : DataSecEntry = record { btf_type = 0; offset = 0; size = 0 } in
       let s = alike_at t.types (fix_section p d int t).types section_rewritten.types d in
-      let j : In e (take size (drop begin gone.entries)) = subst (In e) (λ k. take (s.len k) (drop (s.start k) gone.entries)) i in
+      let j : In e (part gone.entries (type_at t.types d).parts) = subst (In e) (ap (part gone.entries) s.parts) i in
       let r = in_part begin size gone.entries none e j in
       let lt = r.1 in
       subst (λ (z : DataSecEntry). Q z.btf_type) r.2
@@ -294,8 +214,7 @@ module _ (p : Option ℕ) (d int : ℕ) (t : Tables) where
 
 -- ---- the whole
 pub int_known : (p : Option ℕ) (t : Tables) → ((q : ℕ) → p ≡ Some q → Declared t q) → (i : ℕ) → int_of p t.types ≡ Some i → i < length t.types
-int_known None t h i e = first_below t.types i e
-int_known (Some q) t h i e = subst (λ j. j < length t.types) (some_same _ i e) (h q refl).type
+int_known p t h i e = search (rules, first_below, same_Some)
 
 -- the tables of a collected object, and what they become
 module _ (o : Object) (c : Collected o) where
@@ -306,16 +225,16 @@ module _ (o : Object) (c : Collected o) where
   done = fix_section o.placeholder c.section with_one.0 with_one.1
 
   pub done_is : fixed_tables o.placeholder o.tables ≡ done
-  done_is = ap (λ r. fix_found o.placeholder r with_one) c.found
+  done_is = search rules
 
   pub one_longer : Longer o.tables with_one.1
   one_longer = int_longer o.tables (int_of o.placeholder o.tables.types)
 
   pub one_below : with_one.0 < length with_one.1.types
-  one_below = int_below o.tables (int_of o.placeholder o.tables.types) (int_known o.placeholder o.tables (λ q e. declared_is o.tables q (c.placeholder q e)))
+  one_below = search (rules, int_below, int_known, declared_is)
 
   pub found_row : (c.section < length o.tables.types) × (is_data_sec (type_at o.tables.types c.section) ≡ true)
-  found_row = section_is o.tables.strings o.tables.types c.section c.found
+  found_row = search (rules, section_is)
 
   pub one_row : type_at with_one.1.types c.section ≡ type_at o.tables.types c.section
   one_row = longer_at o.tables with_one.1 one_longer c.section found_row.0
@@ -323,20 +242,17 @@ module _ (o : Object) (c : Collected o) where
   pub one_section : is_data_sec (type_at with_one.1.types c.section) ≡ true
   one_section = ap is_data_sec one_row ∙ found_row.1
 
-  pub one_fits : Fits o.tables → (type_at with_one.1.types c.section).start + (type_at with_one.1.types c.section).len ≤ length with_one.1.entries
-  one_fits f =
-      let a = span_inside 15 (length o.tables.entries) 0 o.tables.types f.sections c.section found_row.0 found_row.1 in
-      let b : length with_one.1.entries ≡ length o.tables.entries = ap length one_longer.entries in
-      subst (λ (r : BtfType). r.start + r.len ≤ length with_one.1.entries) (sym one_row) (omega arith)
+  pub one_fits : Fits o.tables → end_of (type_at with_one.1.types c.section).parts ≤ length with_one.1.entries
+  one_fits f = search (rules, follow_in, parts_in, found_row, one_longer, one_row)
 
   pub one_declared : (x : ℕ) → declares o.tables x ≡ true → Declared with_one.1 x
-  one_declared x h = longer_declared o.tables with_one.1 one_longer x (declared_is o.tables x h)
+  one_declared x h = search (rules, longer_declared, one_longer, declared_is)
 
   pub done_declares : (x : ℕ) → Declared with_one.1 x → declares done x ≡ true
-  done_declares x h = is_declared done x (section_declared o.placeholder c.section with_one.0 with_one.1 one_below one_section x h)
+  done_declares x h = search (rules, is_declared, section_declared, one_below, one_section)
 
   pub done_fits : Fits with_one.1 → Fits done
-  done_fits f = rewritten_fits with_one.1 done (section_rewritten o.placeholder c.section with_one.0 with_one.1) f
+  done_fits f = search (rules, rewritten_fits, section_rewritten)
 
   pub done_found : section_of done ≡ Ok (Some c.section)
   done_found =
@@ -376,14 +292,13 @@ object_parts o h =
     (fits_is o.tables a.0, b.0, b.1)
 
 some_externs : (x : Extern) (xs ys : List Extern) → ys ≡ x ∷ xs → ys ≡ [] → ⊥
-some_externs x xs ys e n = let z : ◌≡◌ {A = ℕ} 0 1 = cc in omega arith
+some_externs x xs ys e n = search rules
 
 pub object_collected : (o : Object) (x : Extern) (xs : List Extern) → o.externs ≡ x ∷ xs → object_fits o ≡ true → Collected o
 object_collected o x xs e h = (collected_is_tested o (some_externs x xs o.externs e)).0 (object_parts o h).2
 
 room_is : (b : Bool) (r : Reason) → cond b None (Some r) ≡ None → b ≡ true
-room_is true r e = refl
-room_is false r e = absurd (some_not r e)
+room_is b r e = search rules
 
 fits_for : (xs : List Extern) (o : Object) → o.externs ≡ xs → object_fits o ≡ true → fix_refusal_for xs o.placeholder o.tables ≡ None
     → object_fits (record { tables = fixed_for xs o.placeholder o.tables; externs = o.externs; placeholder = o.placeholder }) ≡ true
@@ -402,76 +317,46 @@ fixed_fits o h g = fits_for o.externs o refl h g
 
 -- ---- what is left
 pub entry_other : (p : Option ℕ) (int at i : ℕ) (t : Tables) (m : ℕ) → (m ≡ at → ⊥) → entry_at (fix_entry p int at i t).entries m ≡ entry_at t.entries m
-entry_other p int at i t m n =
-    by_entry p int at i t (λ u. entry_at u.entries m ≡ entry_at t.entries m)
-    (λ q s e. get_or-set_other t.entries at m (placed q i) (record { btf_type = 0; offset = 0; size = 0 }) n)
-    (λ s e. refl)
-    (λ e. get_or-set_other t.entries at m (placed (id_at p int at i t) i) (record { btf_type = 0; offset = 0; size = 0 }) n)
+entry_other p int at i t m n = search rules
 
 pub row_other : (p : Option ℕ) (int at i : ℕ) (t : Tables) (k : ℕ) → (k ≡ id_at p int at i t → ⊥) → type_at (fix_entry p int at i t).types k ≡ type_at t.types k
-row_other p int at i t k n =
-    by_entry p int at i t (λ u. type_at u.types k ≡ type_at t.types k)
-    (λ q s e. get_or-set_other t.types (id_at p int at i t) k (global_func (row_at p int at i t)) no_row n)
-    (λ s e. refl)
-    (λ e. get_or-set_other t.types (id_at p int at i t) k (global_var int (row_at p int at i t)) no_row n)
+row_other p int at i t k n = search rules
 
 -- a parameter without a type, or with a name
 abbrev Unnamed : BtfParam → Type 0
 Unnamed x = (x.btf_type ≡ 0) ⊎ (x.name_offset ≡ 0 → ⊥)
 
 not_named : (name : ℕ) (x : BtfParam) → Unnamed x → named_param name x ≡ x
-not_named name x (inl e) = cond-false (not (eqb x.btf_type 0) && eqb x.name_offset 0) _ _ (and_left (not (eqb x.btf_type 0)) _ (ap not (eq-eqb _ 0 e)))
-not_named name x (inr n) = cond-false (not (eqb x.btf_type 0) && eqb x.name_offset 0) _ _ (and_right (not (eqb x.btf_type 0)) _ (ne_eqb _ 0 n))
+not_named name x h = search rules
 
 params_at : (name : ℕ) (proto : BtfType) (b : Bool) (ps : List BtfParam) (m : ℕ)
-    → Unnamed (param_at ps m) ⊎ (b ≡ true → (m < proto.start) ⊎ (proto.start + proto.len ≤ m)) → param_at (cond b (named_params name proto ps) ps) m ≡ param_at ps m
-params_at name proto true ps m h =
-    ⊎_elim (λ e. e)
-    (λ r.
-    let a = r.0 in
-    let b = r.1 in
-    ⊎_elim (λ n. r.2 ∙ not_named name (param_at ps m) n) (λ g. absurd (⊎_elim (λ (l : m < proto.start). omega arith) (λ (l : proto.start + proto.len ≤ m). omega arith) (g refl))) h)
-    (part_at (named_param name) proto.start proto.len ps (record { name_offset = 0; btf_type = 0 }) m)
-params_at name proto false ps m h = refl
+    → Unnamed (param_at ps m) ⊎ (b ≡ true → Outside proto.parts m) → param_at (cond b (named_params name proto ps) ps) m ≡ param_at ps m
+params_at name proto b ps m h = search (rules, not_named, part_at)
 
 pub param_same : (p : Option ℕ) (int at i : ℕ) (t : Tables) (m : ℕ)
     → Unnamed (param_at t.params m) ⊎ NotOf t.types (id_at p int at i t) m → param_at (fix_entry p int at i t).params m ≡ param_at t.params m
-param_same p int at i t m h =
-    let proto = type_at t.types (row_at p int at i t).size_or_type in
-    by_entry p int at i t (λ u. param_at u.params m ≡ param_at t.params m)
-    (λ q s e. params_at (type_at t.types q).name_offset proto (is_func_proto proto) t.params m (⊎_elim (λ n. inl n) (λ g. inr (g e)) h))
-    (λ s e. refl)
-    (λ e. refl)
+param_same p int at i t m h = search (rules, by_entry, params_at)
 
 -- no part of the type of a function stays none where rows keep their shape and a Func its type
 not_of : (ts us : List BtfType) (id m : ℕ) → Shape (type_at ts id) (type_at us id)
     → (is_func (type_at ts id) ≡ true → ((type_at us id).size_or_type ≡ (type_at ts id).size_or_type) × Shape (type_at ts (type_at ts id).size_or_type) (type_at us (type_at ts id).size_or_type))
     → NotOf ts id m → NotOf us id m
-not_of ts us id m s f h a b =
-    let k = sym (ap (λ k. eqb (kind_number k) 12) s.kind) ∙ a in
-    let g = (f k).1 in
-    let e = (f k).0 in
-    let row = ap (type_at us) e in
-    subst (λ (r : BtfType). (m < r.start) ⊎ (r.start + r.len ≤ m)) (sym row)
-    (subst (λ (z : ℕ × ℕ). (m < z.0) ⊎ (z.0 + z.1 ≤ m)) (λ i. (sym g.start i, sym g.len i))
-    (h k (sym (ap (λ k. eqb (kind_number k) 13) g.kind) ∙ ap is_func_proto (sym row) ∙ b)))
+not_of ts us id m s f h a b = search rules
 
 module _ (p : Option ℕ) (int start : ℕ) (t : Tables) (len : ℕ) where
   -- the entries that i steps leave
-  abbrev pub Outside : ℕ → Tables → Type 0
-  Outside i u = (m : ℕ) → (m < start) ⊎ (start + i ≤ m) → entry_at u.entries m ≡ entry_at t.entries m
+  abbrev pub Untouched : ℕ → Tables → Type 0
+  Untouched i u = (m : ℕ) → (m < start) ⊎ (start + i ≤ m) → entry_at u.entries m ≡ entry_at t.entries m
 
-  pub outside_on : (i : ℕ) (u : Tables) → Outside i u → Outside (i + 1) (fix_entry p int (start + i) i u)
-  outside_on i u h m s =
-      let n : m ≡ start + i → ⊥ = λ e. ⊎_elim (λ (l : m < start). omega arith) (λ (l : start + (i + 1) ≤ m). omega arith) s in
-      entry_other p int (start + i) i u m n ∙ h m (⊎_elim (λ l. inl l) (λ (l : start + (i + 1) ≤ m). inr (let g : start + i ≤ m = omega arith in g)) s)
+  pub outside_on : (i : ℕ) (u : Tables) → Untouched i u → Untouched (i + 1) (fix_entry p int (start + i) i u)
+  outside_on i u h m s = search rules
 
-  pub entries_outside : Outside len (after p int start t len)
-  entries_outside = entries_keep p int start t len Outside (λ m s. refl) (λ i u l h. outside_on i u h)
+  pub entries_outside : Untouched len (after p int start t len)
+  entries_outside = entries_keep p int start t len Untouched (λ m s. refl) (λ i u l h. outside_on i u h)
 
   pub entries_row : (k : ℕ) → ((j : ℕ) → j < len → (entry_at t.entries (start + j)).btf_type ≡ k → ⊥) → type_at (after p int start t len).types k ≡ type_at t.types k
   entries_row k n =
-      (entries_keep p int start t len (λ i u. Outside i u × (type_at u.types k ≡ type_at t.types k)) ((λ m s. refl), refl)
+      (entries_keep p int start t len (λ i u. Untouched i u × (type_at u.types k ≡ type_at t.types k)) ((λ m s. refl), refl)
       (λ i u l h.
       let here : entry_at u.entries (start + i) ≡ entry_at t.entries (start + i) = h.0 (start + i) (inr (omega arith)) in
       (outside_on i u h.0, row_other p int (start + i) i u k (λ e. n i l (ap (λ (z : DataSecEntry). z.btf_type) (sym here) ∙ sym e)) ∙ h.1))
@@ -482,12 +367,12 @@ module _ (p : Option ℕ) (int start : ℕ) (t : Tables) (len : ℕ) where
   Typed u = (x : ℕ) → is_func (type_at t.types x) ≡ true → (type_at u.types x).size_or_type ≡ (type_at t.types x).size_or_type
 
   typed_on : (at i : ℕ) (u : Tables) → Rewritten t u → Typed u → Typed (fix_entry p int at i u)
-  typed_on at i u r h x e = entry_func p int at i u x (ap (λ k. eqb (kind_number k) 12) (alike_at t.types u.types r.types x).kind ∙ e) ∙ h x e
+  typed_on at i u r h x e = search (rules, entry_func, alike_at)
 
   pub entries_param : (m : ℕ) → Unnamed (param_at t.params m) ⊎ ((j : ℕ) → j < len → NotOf t.types (entry_at t.entries (start + j)).btf_type m)
       → param_at (after p int start t len).params m ≡ param_at t.params m
   entries_param m h =
-      (entries_keep p int start t len (λ i u. Outside i u × Rewritten t u × Typed u × (param_at u.params m ≡ param_at t.params m))
+      (entries_keep p int start t len (λ i u. Untouched i u × Rewritten t u × Typed u × (param_at u.params m ≡ param_at t.params m))
       ((λ m s. refl), rewritten_same t, (λ x e. refl), refl)
       (λ i u l k.
       let id = (entry_at t.entries (start + i)).btf_type in
@@ -507,14 +392,14 @@ module _ (o : Object) (c : Collected o) (f : Fits o.tables) where
   new = record { tables = done o c; externs = o.externs; placeholder = o.placeholder }
 
   -- an entry that a step is about was one of the section's
-  inside : (j : ℕ) → j < (type_at (with_one o c).1.types c.section).len
-      → In (entry_at (with_one o c).1.entries ((type_at (with_one o c).1.types c.section).start + j)) (entries_of o.tables c.section)
+  inside : (j : ℕ) → j < (type_at (with_one o c).1.types c.section).parts.len
+      → In (entry_at (with_one o c).1.entries ((type_at (with_one o c).1.types c.section).parts.start + j)) (entries_of o.tables c.section)
   inside j l =
       let u = (with_one o c).1 in
       let row = type_at u.types c.section in
       let fit = one_fits o c f in
-      subst (In (entry_at u.entries (row.start + j))) (longer_entries o.tables u (one_longer o c) c.section (found_row o c).0)
-      (part_in row.start row.len u.entries (record { btf_type = 0; offset = 0; size = 0 }) j l (omega arith))
+      subst (In (entry_at u.entries (row.parts.start + j))) (longer_entries o.tables u (one_longer o c) c.section (found_row o c).0)
+      (part_in row.parts.start row.parts.len u.entries (record { btf_type = 0; offset = 0; size = 0 }) j l (omega arith))
 
   leaves_shape : (k : ℕ) → k < length o.tables.types → Shape (type_at o.tables.types k) (type_at new.tables.types k)
   leaves_shape k lt =
@@ -528,16 +413,12 @@ module _ (o : Object) (c : Collected o) (f : Fits o.tables) where
       let u = (with_one o c).1 in
       let row = type_at u.types c.section in
       section_other o.placeholder c.section (with_one o c).0 u k n
-      ∙ entries_row o.placeholder (with_one o c).0 row.start u row.len k (λ j l. h (entry_at u.entries (row.start + j)) (inside j l))
+      ∙ entries_row o.placeholder (with_one o c).0 row.parts.start u row.parts.len k (λ j l. h (entry_at u.entries (row.parts.start + j)) (inside j l))
       ∙ longer_at o.tables u (one_longer o c) k lt
 
-  leaves_entries : (k : ℕ) → (k < (type_at o.tables.types c.section).start) ⊎ ((type_at o.tables.types c.section).start + (type_at o.tables.types c.section).len ≤ k)
+  leaves_entries : (k : ℕ) → Outside (type_at o.tables.types c.section).parts k
       → entry_at new.tables.entries k ≡ entry_at o.tables.entries k
-  leaves_entries k s =
-      let u = (with_one o c).1 in
-      let row = type_at u.types c.section in
-      entries_outside o.placeholder (with_one o c).0 row.start u row.len k (subst (λ (r : BtfType). (k < r.start) ⊎ (r.start + r.len ≤ k)) (sym (one_row o c)) s)
-      ∙ ap (λ es. entry_at es k) (one_longer o c).entries
+  leaves_entries k s = search (rules, entries_outside, one_row, one_longer)
 
   leaves_params : (k : ℕ) → Unnamed (param_at o.tables.params k) ⊎ ((e : DataSecEntry) → In e (entries_of o.tables c.section) → NotOf o.tables.types e.btf_type k)
       → param_at new.tables.params k ≡ param_at o.tables.params k
@@ -549,13 +430,13 @@ module _ (o : Object) (c : Collected o) (f : Fits o.tables) where
       let shape : (x : ℕ) → x < length o.tables.types → Shape (type_at o.tables.types x) (type_at u.types x) = λ x lt.
       subst (Shape (type_at o.tables.types x)) (sym (longer_at o.tables u long x lt)) (shape_same _) in
       let other : ((e : DataSecEntry) → In e (entries_of o.tables c.section) → NotOf o.tables.types e.btf_type k)
-      → (j : ℕ) → j < row.len → NotOf u.types (entry_at u.entries (row.start + j)).btf_type k = λ g j l.
-      let e = entry_at u.entries (row.start + j) in
+      → (j : ℕ) → j < row.parts.len → NotOf u.types (entry_at u.entries (row.parts.start + j)).btf_type k = λ g j l.
+      let e = entry_at u.entries (row.parts.start + j) in
       let i = inside j l in
       let d = declared_is o.tables e.btf_type (c.entries e i) in
       not_of o.tables.types u.types e.btf_type k (shape _ d.below)
       (λ a. (ap (λ (r : BtfType). r.size_or_type) (longer_at o.tables u long _ d.below), shape _ d.type)) (g e i) in
-      entries_param o.placeholder (with_one o c).0 row.start u row.len k (⊎_elim (λ n. inl (subst Unnamed (sym same) n)) (λ g. inr (other g)) h) ∙ same
+      entries_param o.placeholder (with_one o c).0 row.parts.start u row.parts.len k (⊎_elim (λ n. inl (subst Unnamed (sym same) n)) (λ g. inr (other g)) h) ∙ same
 
   leaves_strings : (k : ℕ) → k < length o.tables.strings → get_or new.tables.strings k 0 ≡ get_or o.tables.strings k 0
   leaves_strings k lt =
@@ -571,8 +452,7 @@ module _ (o : Object) (c : Collected o) (f : Fits o.tables) where
         rows = leaves_rows;
         kinds = λ k lt. (leaves_shape k lt).kind;
         names = λ k lt. (leaves_shape k lt).name;
-        starts = λ k lt. (leaves_shape k lt).start;
-        lens = λ k lt. (leaves_shape k lt).len;
+        parts = λ k lt. (leaves_shape k lt).parts;
         entries = leaves_entries;
         params = λ k h. leaves_params k (inl h);
         other_params = λ k h. leaves_params k (inr h);
@@ -580,27 +460,14 @@ module _ (o : Object) (c : Collected o) (f : Fits o.tables) where
       }
 
 pub same_leaves : (o : Object) (d : ℕ) → Leaves o o d
-same_leaves o d =
-    record {
-      externs = refl;
-      placeholder = refl;
-      rows = λ k a b e. refl;
-      kinds = λ k a. refl;
-      names = λ k a. refl;
-      starts = λ k a. refl;
-      lens = λ k a. refl;
-      entries = λ k a. refl;
-      params = λ k a. refl;
-      other_params = λ k a. refl;
-      strings = λ k a. refl;
-    }
+same_leaves o d = search rules
 
 leaves_for : (xs : List Extern) (o : Object) (d : ℕ) → o.externs ≡ xs → object_fits o ≡ true → section_of o.tables ≡ Ok (Some d)
     → Leaves o (record { tables = fixed_for xs o.placeholder o.tables; externs = o.externs; placeholder = o.placeholder }) d
 leaves_for [] o d e h s = same_leaves o d
 leaves_for (x ∷ xs) o d e h s =
     let c = object_collected o x xs e h in
-    let same : c.section ≡ d = some_same _ _ (ok_same _ _ (sym c.found ∙ s)) in
+    let same : c.section ≡ d = same_Some _ _ (ok_same _ _ (sym c.found ∙ s)) in
     subst (Leaves o (record { tables = fixed_tables o.placeholder o.tables; externs = o.externs; placeholder = o.placeholder })) same
     (subst (λ (t : Tables). Leaves o (record { tables = t; externs = o.externs; placeholder = o.placeholder }) c.section) (sym (done_is o c)) (done_leaves o c (object_parts o h).0))
 

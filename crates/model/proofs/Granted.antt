@@ -1,10 +1,12 @@
 -- What a granted call met.
-use Rattle.std.proofs.Common.{◌≡◌, ℕ, true, List, map, is_ok, Some, None, Ok, Err, Option, Result, refl, ap, ◌∙◌, ⊎_elim}
+use Rattle.std.proofs.Common.{rules, ◌≡◌, ℕ, true, List, map, is_ok, Some, None, Ok, Err, Option, Result, refl, ap, ◌∙◌, ⊎_elim}
+use Rattle.std.specs.Option.{option_or}
+use Rattle.std.specs.List.{list_any}
 use Rattle.std.proofs.lemmas.Bool.{cond-true, cond-false, cond_both, false≢true, cases_Bool, and_left}
 use Rattle.kallsyms.specs.declared.ends.End.{End}
 use Rattle.model.specs.Externs.{Extern}
 use Rattle.model.specs.Lines.{Line, said}
-use Rattle.model.specs.Lists.{In, any, or_else, first}
+use Rattle.model.specs.Lists.{In, first}
 use Rattle.model.specs.Relocate.{Taken, patched}
 use Rattle.model.specs.Resolve.{typed_refusal, wanted, line_refusal, end_refusal, missing_refusal, lines_refusal}
 use Rattle.model.specs.Runs.{State, Step, fits, reason, refusal, answered, call_of, granted}
@@ -17,17 +19,14 @@ use Rattle.model.specs.declared.rows.Slot.{Slot}
 use Rattle.model.proofs.Lookups.{or_else_parts, or_else_from, test_parts, when_parts, first_none, none_first, any_in}
 
 granted_none : (c : Call) (o : Option Reason) → is_ok (answered c o) ≡ true → o ≡ None
-granted_none c None e = refl
-granted_none c (Some x) e = absurd (false≢true e)
+granted_none c o e = search rules
 
 -- a call is granted exactly if its tables are well-formed and it meets no refusal
 pub granted_parts : (s : Step) (st : State) → granted s st ≡ true → (fits s st ≡ true) × (reason s st ≡ None)
-granted_parts s st g = test_parts (fits s st) (reason s st) InvalidTable (granted_none (call_of s) _ g)
+granted_parts s st g = search (rules, test_parts, granted_none)
 
 pub granted_from : (s : Step) (st : State) → fits s st ≡ true → reason s st ≡ None → granted s st ≡ true
-granted_from s st f r =
-    let h : refusal s st ≡ None = cond-true (fits s st) _ _ f ∙ r in
-    ap (λ o. is_ok (answered (call_of s) o)) h
+granted_from s st f r = search rules
 
 -- ---- a granted resolution, by the externs
 pub record Clear (c : Option Catalogue) (ls : List (List ℕ)) (e : End) (xs : List Extern) : Type 0 where
@@ -40,26 +39,17 @@ clear c ls e st g =
     record { typed = none_first (typed_refusal c) 0 st.object.externs q.0; lines = q.1 }
 
 pub clear_granted : (c : Option Catalogue) (ls : List (List ℕ)) (e : End) (st : State) → fits (resolve c ls e) st ≡ true → Clear c ls e st.object.externs → granted (resolve c ls e) st ≡ true
-clear_granted c ls e st f k = granted_from (resolve c ls e) st f (or_else_from _ _ (first_none (typed_refusal c) 0 st.object.externs k.typed) k.lines)
+clear_granted c ls e st f k = search (rules, granted_from, or_else_from, first_none)
 
 -- ---- the parts of a reading with nothing to refuse
-pub lines_parts : (xs : List Extern) (ls : List Line) (e : End) → lines_refusal xs ls e ≡ None → any wanted xs ≡ true → (first (line_refusal xs ls) 0 ls ≡ None) × (end_refusal e ≡ None) × (first (missing_refusal ls) 0 xs ≡ None)
-lines_parts xs ls e h t =
-    let p = or_else_parts (first (line_refusal xs ls) 0 ls) (or_else (end_refusal e) (first (missing_refusal ls) 0 xs)) (when_parts (any wanted xs) _ h t) in
-    let q = or_else_parts (end_refusal e) (first (missing_refusal ls) 0 xs) p.1 in
-    (p.0, q.0, q.1)
+pub lines_parts : (xs : List Extern) (ls : List Line) (e : End) → lines_refusal xs ls e ≡ None → list_any wanted xs ≡ true → (first (line_refusal xs ls) 0 ls ≡ None) × (end_refusal e ≡ None) × (first (missing_refusal ls) 0 xs ≡ None)
+lines_parts xs ls e h t = search rules
 
-pub lines_from : (xs : List Extern) (ls : List Line) (e : End) → (any wanted xs ≡ true → (first (line_refusal xs ls) 0 ls ≡ None) × (end_refusal e ≡ None) × (first (missing_refusal ls) 0 xs ≡ None)) → lines_refusal xs ls e ≡ None
-lines_from xs ls e h =
-    cond_both (any wanted xs) (or_else (first (line_refusal xs ls) 0 ls) (or_else (end_refusal e) (first (missing_refusal ls) 0 xs))) None (λ o. o ≡ None)
-    (λ t. let p = h t in or_else_from _ _ p.0 (or_else_from _ _ p.1 p.2)) (λ _. refl)
+pub lines_from : (xs : List Extern) (ls : List Line) (e : End) → (list_any wanted xs ≡ true → (first (line_refusal xs ls) 0 ls ≡ None) × (end_refusal e ≡ None) × (first (missing_refusal ls) 0 xs ≡ None)) → lines_refusal xs ls e ≡ None
+lines_from xs ls e h = search rules
 
 pub none_missing : (xs : List Extern) (ls : List Line) (e : End) → lines_refusal xs ls e ≡ None → (x : Extern) → In x xs → missing_refusal ls x ≡ None
-none_missing xs ls e h x i =
-    ⊎_elim
-    (λ t. none_first (missing_refusal ls) 0 xs (lines_parts xs ls e h (any_in wanted xs x i t)).2 x i)
-    (λ t. cond-false _ _ _ (and_left _ _ (and_left _ _ t)))
-    (cases_Bool (wanted x))
+none_missing xs ls e h x i = search (rules, none_first, lines_parts, any_in, and_left)
 
 -- ---- relocations
 -- the rest of the relocations, after what one of them came to

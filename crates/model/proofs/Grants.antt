@@ -1,14 +1,17 @@
 -- When a resolution is granted.
-use Rattle.std.proofs.Common.{◌≡◌, ℕ, Bool, true, false, not, ◌&&◌, ◌||◌, eqb, ◌↔◌, List, map, is_some, Some, None, Option, sym, refl, ap, ◌∙◌, subst, inl, inr, ⊎_elim}
+use Rattle.std.proofs.Common.{rules, ◌≡◌, ℕ, Bool, true, false, not, ◌&&◌, ◌||◌, eqb, ◌↔◌, List, map, is_some, Some, None, Option, sym, refl, ap, ◌∙◌, subst, inl, inr, ⊎_elim}
+use Rattle.std.specs.List.{list_any}
 use Rattle.std.proofs.lemmas.Bool.{cond-true, cond-false, cond_both, both_ways, false≢true, cases_Bool, eqb-true, eqb-false, eq-eqb, and_parts, and_from, or_left, or_right, or_cases, not-true}
 use Rattle.std.specs.Str.{bytes_eq}
+use Rattle.std.proofs.lemmas.Option.{none-some}
+use Rattle.std.proofs.lemmas.Slice.Eq.{bytes_eq-Decides}
 use Rattle.kallsyms.specs.declared.ends.End.{End}
 use Rattle.kallsyms.specs.declared.ends.End.TheVariants.{Clean, Broken}
 use Rattle.model.specs.Externs.{Extern}
 use Rattle.model.specs.Laws.{TypedCondition, Wanted, FindsRow, LinesAnswer, LineCondition}
 use Rattle.model.specs.Lines.{Line, said, first_address}
 use Rattle.model.specs.Lines.Line.{line, short}
-use Rattle.model.specs.Lists.{In, any, lookup}
+use Rattle.model.specs.Lists.{In, lookup}
 use Rattle.model.specs.Resolve.{candidate, missing_row, unfit_row, row_refusal, catalogue_refusal, strong_typed, typed_refusal, wanted, address_refusal, wanted_refusal, line_refusal, end_refusal, missing_refusal, lines_refusal}
 use Rattle.model.specs.Runs.{State, Step, fits, granted, runs}
 use Rattle.model.specs.Runs.Step.{resolve}
@@ -17,26 +20,14 @@ use Rattle.model.specs.declared.rows.CatalogueRow.{CatalogueRow}
 use Rattle.model.proofs.Granted.{Clear, clear, clear_granted, lines_parts, lines_from, none_missing}
 use Rattle.model.proofs.History.{marked, Kept, kept_name, kept_weak, after, runs_after, after_kept, wanted-Wanted, Wanted-wanted}
 use Rattle.model.proofs.Listed.{found_in, in_found}
-use Rattle.model.proofs.Lookups.{some_not, some_is, first_none, none_first, any_in, any_some, lookup_in, lookup_none, in_map, map_in, same_is, same_refl, when_parts}
+use Rattle.model.proofs.Lookups.{some_is, first_none, none_first, any_in, any_some, lookup_in, lookup_none, in_map, map_in, when_parts}
 
 -- ---- one line
 refused_parts : (x : Extern) (i a : ℕ) (o : Option ℕ) → address_refusal x i a o ≡ None → (is_some o ≡ true) × ((b : ℕ) → o ≡ Some b → (b ≡ 0 → ⊥) → a ≡ b)
-refused_parts x i a None h = absurd (some_not _ h)
-refused_parts x i a (Some d) h = (
-  refl,
-  λ b q nz.
-      let s : d ≡ b = cc in
-      ⊎_elim
-      (λ t. ⊎_elim (λ z. absurd (nz (sym s ∙ eqb-true d 0 z))) (λ z. eqb-true a d z ∙ s) (or_cases _ _ t))
-      (λ t. absurd (some_not _ (sym (cond-false (eqb d 0 || eqb a d) None (Some _) t) ∙ h)))
-      (cases_Bool (eqb d 0 || eqb a d)),
-)
+refused_parts x i a o h = search rules
 
 refused_from : (x : Extern) (i a : ℕ) (o : Option ℕ) → is_some o ≡ true → ((b : ℕ) → o ≡ Some b → (b ≡ 0 → ⊥) → a ≡ b) → address_refusal x i a o ≡ None
-refused_from x i a None t h = absurd (false≢true t)
-refused_from x i a (Some d) t h =
-    cond-true _ _ _
-    (⊎_elim (λ z. or_left _ _ z) (λ z. or_right (eqb d 0) _ (eq-eqb a d (h d refl (eqb-false d 0 z)))) (cases_Bool (eqb d 0)))
+refused_from x i a o t h = search rules
 
 -- what a reading with nothing to refuse says of the lines of a wanted row
 pub judged :
@@ -46,20 +37,13 @@ pub judged :
     → wanted r ≡ true
     → In (line r.name o) ls
     → (is_some o ≡ true) × ((b : ℕ) → o ≡ Some b → (b ≡ 0 → ⊥) → first_address r.name ls ≡ b)
-judged rows ls e r o h i w j =
-    let has : Extern → Bool = λ q. wanted q && bytes_eq q.name r.name in
-    let p = none_first (line_refusal rows ls) 0 ls (lines_parts rows ls e h (any_in wanted rows r i w)).0 (line r.name o) j in
-    ⊎_elim
-    (λ k. absurd (both_ways _ (lookup_none has 0 rows k r i) (and_from _ _ w (same_refl r.name))))
-    (λ k. refused_parts k.0.1 k.0.0 (first_address r.name ls) o (sym (ap (λ q. wanted_refusal q (first_address r.name ls) o) k.1) ∙ p))
-    (some_is (lookup has 0 rows))
+judged rows ls e r o h i w j = search (rules, none_first, lines_parts, any_in, both_ways, lookup_none, bytes_eq-Decides, refused_parts, some_is)
 
 pub not_missing : (ls : List Line) (r : Extern) → missing_refusal ls r ≡ None → wanted r ≡ true → r.weak ≡ false → first_address r.name ls ≡ 0 → ⊥
-not_missing ls r h w s z = some_not _ (when_parts ((wanted r && not r.weak) && eqb (first_address r.name ls) 0) (Some _) h (and_from _ _ (and_from _ _ w (ap not s)) (eq-eqb _ 0 z)))
+not_missing ls r h w s z = search rules
 
 end_clean : (e : End) → end_refusal e ≡ None → e ≡ Clean
-end_clean Clean h = refl
-end_clean (Broken f) h = absurd (some_not _ h)
+end_clean e h = search rules
 
 -- ---- the two conditions, of rows that calls have changed and that W says are wanted
 module _
@@ -76,7 +60,7 @@ module _
     ls = map said raw
 
     named : (r : Extern) (o : Option ℕ) → In (line r.name o) ls → In (line (f r).name o) ls
-    named r o = subst (λ n. In (line n o) ls) (sym (kept_name (kept r)))
+    named r o = search rules
 
     judged_row : lines_refusal (map f rows) ls e ≡ None → (r : Extern) (o : Option ℕ) → In r rows → W r → In (line r.name o) ls → (is_some o ≡ true) × ((b : ℕ) → o ≡ Some b → (b ≡ 0 → ⊥) → first_address (f r).name ls ≡ b)
     judged_row h r o i w j = judged (map f rows) ls e (f r) o h (in_map f rows r i) (from r i w) (named r o j)
@@ -93,7 +77,7 @@ module _
               (first_address (f r).name ls, (subst (λ n. In (line n (Some (first_address (f r).name ls))) ls) (kept_name (kept r)) (found_in (f r).name ls z), z));
         }))
         (λ t. inl (λ r i w. both_ways _ t (any_in wanted (map f rows) (f r) (in_map f rows r i) (from r i w))))
-        (cases_Bool (any wanted (map f rows)))
+        (cases_Bool (list_any wanted (map f rows)))
 
     module _ (c : LinesAnswer W rows raw e) where
       line_clear : (l : Line) → In l ls → line_refusal (map f rows) ls l ≡ None
@@ -107,7 +91,7 @@ module _
           let t = and_parts _ _ p.1 in
           let r = q.0 in
           let w = to r q.1 (ap wanted q.2 ∙ t.0) in
-          let e' : r.name ≡ n = sym (kept_name (kept r)) ∙ ap (λ x. x.name) q.2 ∙ same_is _ _ t.1 in
+          let e' : r.name ≡ n = sym (kept_name (kept r)) ∙ ap (λ x. x.name) q.2 ∙ (bytes_eq-Decides _ _).0 t.1 in
           let j : In (line r.name o) ls = subst (λ m. In (line m o) ls) (sym e') i in
           ap (λ x. wanted_refusal x (first_address n ls) o) k.1
           ∙ refused_from k.0.1 k.0.0 (first_address n ls) o (c.reads r o q.1 w j)
@@ -119,61 +103,33 @@ module _
       line_clear short i = refl
 
       row_clear : (x : Extern) → In x (map f rows) → missing_refusal ls x ≡ None
-      row_clear x i =
-          let q = map_in f rows x i in
-          let r = q.0 in
-          ap (missing_refusal ls) (sym q.2)
-          ∙ cond_both ((wanted (f r) && not (f r).weak) && eqb (first_address (f r).name ls) 0) _ None (λ o. o ≡ None)
-          (λ t.
-          let p = and_parts _ _ t in
-          let u = and_parts _ _ p.0 in
-          let a = c.strong r q.1 (to r q.1 u.0) (sym (kept_weak (kept r)) ∙ not-true _ u.1) in
-          absurd (in_found (f r).name ls a.0 (named r (Some a.0) a.1.0, a.1.1) (eqb-true _ 0 p.1)))
-          (λ _. refl)
+      row_clear x i = search (rules, map_in, kept_weak, not-true, in_found, eqb-true)
 
     pub condition_lines : LineCondition W rows raw e → lines_refusal (map f rows) ls e ≡ None
-    condition_lines (inl none) =
-        lines_from (map f rows) ls e (λ t.
-        let x = any_some wanted (map f rows) t in
-        let q = map_in f rows x.0 x.1 in
-        absurd (none q.0 q.1 (to q.0 q.1 (ap wanted q.2 ∙ x.2))))
-    condition_lines (inr c) =
-        lines_from (map f rows) ls e (λ _. (
-          first_none (line_refusal (map f rows) ls) 0 ls (line_clear c),
-          ap end_refusal c.clean,
-          first_none (missing_refusal ls) 0 (map f rows) (row_clear c),
-        ))
+    condition_lines h = search (rules, lines_from, any_some, map_in, first_none, line_clear, row_clear)
 
 -- ---- typed rows
 typed_marked : (c : Option Catalogue) (b : Bool) (i a : Option ℕ) (r : Extern) → typed_refusal c (marked b i a r) ≡ typed_refusal c r
-typed_marked None b i a r = refl
-typed_marked (Some c) b i a r = refl
+typed_marked c b i a r = search rules
 
 typed_kept : (c : Option Catalogue) {r q : Extern} → Kept r q → typed_refusal c q ≡ typed_refusal c r
-typed_kept c {r} {q} k = ap (typed_refusal c) k.row ∙ typed_marked c q.resolved q.id q.address r
+typed_kept c {r} {q} k = search (rules, typed_marked)
 
 unfit_not : (x : Extern) → unfit_row x ≡ None → ⊥
-unfit_not x = cond_both x.func (Some _) (Some _) (λ o. o ≡ None → ⊥) (λ _. some_not _) (λ _. some_not _)
+unfit_not x = search rules
 
 missing_not : (x : Extern) → missing_row x ≡ None → ⊥
-missing_not x = cond_both x.func (Some _) (Some _) (λ o. o ≡ None → ⊥) (λ _. some_not _) (λ _. some_not _)
+missing_not x = search rules
 
 -- an extern that is not refused finds a row that fits
 pub row_fits : (x : Extern) (o : Option (ℕ × CatalogueRow)) → row_refusal x o ≡ None → (k : ℕ × CatalogueRow) × (o ≡ Some k) × (k.1.fits ≡ true)
-row_fits x None h = absurd (missing_not x h)
-row_fits x (Some k) h =
-    ⊎_elim
-    (λ t. (k, refl, t))
-    (λ t. absurd (unfit_not x (sym (cond-false k.1.fits None (unfit_row x) t) ∙ h)))
-    (cases_Bool k.1.fits)
+row_fits x o h = search rules
 
 refusal_finds : (c : Option Catalogue) (x : Extern) → catalogue_refusal c x ≡ None → FindsRow c x
-refusal_finds None x h = absurd (some_not _ h)
-refusal_finds (Some c) x h = row_fits x (candidate c x) h
+refusal_finds c x h = search rules
 
 finds_refusal : (c : Option Catalogue) (x : Extern) → FindsRow c x → catalogue_refusal c x ≡ None
-finds_refusal None x h = absurd h
-finds_refusal (Some c) x (k, p, t) = ap (row_refusal x) p ∙ cond-true k.1.fits None (unfit_row x) t
+finds_refusal c x h = search rules
 
 -- ---- the law, of externs that no call has touched
 pub after_calls :

@@ -1,33 +1,36 @@
 -- Tables that grow, or whose rows are rewritten and keep their shape, stay well-formed.
-use Rattle.std.proofs.Common.{◌≡◌, ℕ, zero, suc, ◌+◌, ◌<◌, ◌≤◌, Bool, true, false, cond, ◌&&◌, ◌||◌, eqb, ltb, leb, ◌⊎◌, List, [], ◌∷◌, ◌++◌, length, take, drop, set, is_some, Some, None, Ok, codes, Option, Result, sym, refl, ap, ◌∙◌, subst, inl, inr, ⊎_elim, arith}
+use Rattle.std.proofs.lemmas.Grind.{common_steps}
+use Rattle.std.proofs.Common.{rules, ◌≡◌, ℕ, zero, suc, ◌+◌, ◌<◌, ◌≤◌, Bool, true, false, cond, ◌&&◌, ◌||◌, eqb, ltb, leb, ◌⊎◌, List, [], ◌∷◌, ◌++◌, length, drop, set, is_some, Some, None, Ok, codes, Option, Result, sym, refl, ap, ◌∙◌, subst, inl, inr, ⊎_elim, arith}
+use Rattle.std.specs.List.{list_all}
 use Rattle.std.specs.Option.{option_map}
 use Rattle.std.specs.Str.{bytes_eq}
 use Rattle.std.proofs.lemmas.List.{append-nil, append_assoc, length-append, length_push, get_or_append_left, drop-append-le, at_drop_all}
-use Rattle.std.proofs.lemmas.Bool.{false≢true, cases_Bool, cases_lt, cond-true, cond-false, and_parts, and_from, ltb-true, lt-ltb, leb-true, le-leb, eqb-true}
+use Rattle.std.proofs.lemmas.Bool.{false≢true, cases_Bool, cases_lt, cond-true, cond-false, cond_both, and_parts, and_from, ltb-true, lt-ltb, leb-true, le-leb}
+use Rattle.std.proofs.lemmas.Option.{none-some, same_Some}
 use Rattle.model.specs.Chain.{no_row, type_at}
 use Rattle.model.specs.Added.{added, int_row, placeholder_row, int_name, placeholder_name, is_int_of_four, first_int, with_int, with_placeholder, room_for, room_for_int, room_for_placeholder}
 use Rattle.model.specs.Collect.{section_here, section_from, section_of, entries_of}
 use Rattle.model.specs.Collected.{declares}
 use Rattle.model.specs.Kinds.{kind_number, of_kind, is_func, is_var, is_data_sec}
-use Rattle.model.specs.Lists.{all, lookup, number_of}
+use Rattle.model.specs.Lists.{In, lookup, number_of}
 use Rattle.model.specs.Names.{to_zero, name_at}
-use Rattle.model.specs.Tables.{Tables, MAX_ROWS, MAX_NAMES, void_first, spans_follow, parts_fit, few, tables_fit}
+use Rattle.model.specs.Spans.{part, follow}
+use Rattle.model.specs.Tables.{Tables, MAX_ROWS, MAX_NAMES, void_first, parts_of, parts_fit, few, tables_fit}
 use Rattle.model.specs.declared.btf.BtfType.{BtfType}
 use Rattle.model.specs.declared.refusal.Reason.{Reason}
-use Rattle.model.proofs.Lookups.{some_not, some_same, ok_same, err_not}
+use Rattle.model.proofs.Lookups.{ok_same, err_not}
 
 -- ---- rows of one shape
 pub record Shape (t u : BtfType) : Type 0 where
   pub kind : u.kind ≡ t.kind
   pub name : u.name_offset ≡ t.name_offset
-  pub start : u.start ≡ t.start
-  pub len : u.len ≡ t.len
+  pub parts : u.parts ≡ t.parts
 
 pub shape_same : (t : BtfType) → Shape t t
-shape_same t = record { kind = refl; name = refl; start = refl; len = refl }
+shape_same t = search rules
 
 pub shape_on : (t u v : BtfType) → Shape t u → Shape u v → Shape t v
-shape_on t u v a b = record { kind = b.kind ∙ a.kind; name = b.name ∙ a.name; start = b.start ∙ a.start; len = b.len ∙ a.len }
+shape_on t u v a b = search rules
 
 abbrev pub Alike : List BtfType → List BtfType → Type 0
 Alike [] [] = Unit {0}
@@ -67,31 +70,27 @@ alike_set (t ∷ ts) zero u s = (s, alike_same ts)
 alike_set (t ∷ ts) (suc i) u s = (shape_same t, alike_set ts i u s)
 
 kind_same : (k : ℕ) (t u : BtfType) → Shape t u → of_kind k u ≡ of_kind k t
-kind_same k t u s = ap (λ x. eqb (kind_number x) k) s.kind
+kind_same k t u s = search rules
 
 pub alike_void : (ts us : List BtfType) → Alike ts us → void_first us ≡ void_first ts
-alike_void [] [] a = refl
-alike_void [] (u ∷ us) a = absurd a
-alike_void (t ∷ ts) [] a = absurd a
-alike_void (t ∷ ts) (u ∷ us) a = kind_same 0 t u a.0
+alike_void ts us a = search rules
 
 parts_same : (t u : BtfType) → Shape t u → parts_fit u ≡ parts_fit t
-parts_same t u s = λ i. (kind_same 15 t u s i || kind_same 13 t u s i) || eqb (s.len i) 0
+parts_same t u s = search rules
 
-pub alike_parts : (ts us : List BtfType) → Alike ts us → all parts_fit us ≡ all parts_fit ts
+pub alike_parts : (ts us : List BtfType) → Alike ts us → list_all parts_fit us ≡ list_all parts_fit ts
 alike_parts [] [] a = refl
 alike_parts [] (u ∷ us) a = absurd a
 alike_parts (t ∷ ts) [] a = absurd a
 alike_parts (t ∷ ts) (u ∷ us) a = λ i. parts_same t u a.0 i && alike_parts ts us a.1 i
 
-pub alike_spans : (k at n : ℕ) (ts us : List BtfType) → Alike ts us → spans_follow k at us n ≡ spans_follow k at ts n
-alike_spans k at n [] [] a = refl
-alike_spans k at n [] (u ∷ us) a = absurd a
-alike_spans k at n (t ∷ ts) [] a = absurd a
-alike_spans k at n (t ∷ ts) (u ∷ us) a =
+pub alike_spans : (k : ℕ) (ts us : List BtfType) → Alike ts us → parts_of k us ≡ parts_of k ts
+alike_spans k [] [] a = refl
+alike_spans k [] (u ∷ us) a = absurd a
+alike_spans k (t ∷ ts) [] a = absurd a
+alike_spans k (t ∷ ts) (u ∷ us) a =
     let s = a.0 in
-    (λ i. cond (kind_same k t u s i) (eqb (s.start i) at && spans_follow k (at + s.len i) us n) (spans_follow k at us n))
-    ∙ (λ i. cond (of_kind k t) (eqb t.start at && alike_spans k (at + t.len) n ts us a.1 i) (alike_spans k at n ts us a.1 i))
+    let rest = alike_spans k ts us a.1 in λ i. cond (kind_same k t u s i) (s.parts i ∷ rest i) (rest i)
 
 pub alike_section : (strings : List ℕ) (i : ℕ) (ts us : List BtfType) → Alike ts us → section_from strings i us ≡ section_from strings i ts
 alike_section strings i [] [] a = refl
@@ -103,22 +102,19 @@ alike_section strings i (t ∷ ts) (u ∷ us) a =
     ∙ (λ j. cond (is_data_sec t) (section_here (name_at strings t.name_offset) i (alike_section strings (suc i) ts us a.1 j)) (alike_section strings (suc i) ts us a.1 j))
 
 -- ---- a row more
-pub spans_push : (k at n : ℕ) (ts : List BtfType) (u : BtfType) → of_kind k u ≡ false → spans_follow k at (ts ++ u ∷ []) n ≡ spans_follow k at ts n
-spans_push k at n [] u o = cond-false (of_kind k u) _ _ o
-spans_push k at n (t ∷ ts) u o = λ i. cond (of_kind k t) (eqb t.start at && spans_push k (at + t.len) n ts u o i) (spans_push k at n ts u o i)
+pub spans_push : (k : ℕ) (ts : List BtfType) (u : BtfType) → of_kind k u ≡ false → parts_of k (ts ++ u ∷ []) ≡ parts_of k ts
+spans_push k [] u o = cond-false (of_kind k u) _ _ o
+spans_push k (t ∷ ts) u o = let rest = spans_push k ts u o in λ i. cond (of_kind k t) (t.parts ∷ rest i) (rest i)
 
 pub void_push : (ts us : List BtfType) → void_first ts ≡ true → void_first (ts ++ us) ≡ true
-void_push [] us h = absurd (false≢true h)
-void_push (t ∷ ts) us h = h
+void_push ts us h = search rules
 
-pub parts_push : (ts : List BtfType) (u : BtfType) → all parts_fit ts ≡ true → parts_fit u ≡ true → all parts_fit (ts ++ u ∷ []) ≡ true
-parts_push [] u h p = and_from (parts_fit u) true p refl
-parts_push (t ∷ ts) u h p = let q = and_parts (parts_fit t) (all parts_fit ts) h in and_from (parts_fit t) _ q.0 (parts_push ts u q.1 p)
+pub parts_push : (ts : List BtfType) (u : BtfType) → list_all parts_fit ts ≡ true → parts_fit u ≡ true → list_all parts_fit (ts ++ u ∷ []) ≡ true
+parts_push ts u h p = grind (arith, common_steps)
 
 -- ---- names in longer strings
 mapped_some : (f : List ℕ → List ℕ) (o : Option (List ℕ)) → is_some (option_map f o) ≡ is_some o
-mapped_some f None = refl
-mapped_some f (Some x) = refl
+mapped_some f o = search rules
 
 zero_stays : (xs more : List ℕ) → is_some (to_zero xs) ≡ true → to_zero (xs ++ more) ≡ to_zero xs
 zero_stays [] more h = absurd (false≢true h)
@@ -143,14 +139,10 @@ module _ (strings more : List ℕ) (us : List BtfType) where
   here_grows : (x y : Option (List ℕ)) (i d : ℕ) (a b : Result (Option ℕ) Reason)
       → ((n : List ℕ) → x ≡ Some n → y ≡ Some n) → (a ≡ Ok (Some d) → b ≡ Ok (Some d))
       → section_here x i a ≡ Ok (Some d) → section_here y i b ≡ Ok (Some d)
-  here_grows None y i d a b f g h = absurd (err_not _ _ h)
-  here_grows (Some n) y i d a b f g h =
-      ap (λ z. section_here z i b) (f n refl)
-      ∙ ⊎_elim (λ e. cond-true _ _ _ e ∙ sym (cond-true (bytes_eq n (codes ".ksyms")) (Ok (Some i)) a e) ∙ h)
-      (λ e. cond-false _ _ _ e ∙ g (sym (cond-false (bytes_eq n (codes ".ksyms")) (Ok (Some i)) a e) ∙ h)) (cases_Bool (bytes_eq n (codes ".ksyms")))
+  here_grows x y i d a b f g h = search rules
 
   pub section_grows : (i d : ℕ) (ts : List BtfType) → section_from strings i ts ≡ Ok (Some d) → section_from (strings ++ more) i (ts ++ us) ≡ Ok (Some d)
-  section_grows i d [] h = absurd (some_not d (sym (ok_same _ _ h)))
+  section_grows i d [] h = absurd (none-some d (ok_same _ _ h))
   section_grows i d (t ∷ ts) h =
       ⊎_elim
       (λ e. cond-true _ _ _ e ∙ here_grows (name_at strings t.name_offset) _ i d (section_from strings (suc i) ts) _
@@ -159,14 +151,11 @@ module _ (strings more : List ℕ) (us : List BtfType) where
 
 -- the section is a DataSec
 here_at : (x : Option (List ℕ)) (i d : ℕ) (a : Result (Option ℕ) Reason) → section_here x i a ≡ Ok (Some d) → (i ≡ d) ⊎ (a ≡ Ok (Some d))
-here_at None i d a h = absurd (err_not _ _ h)
-here_at (Some n) i d a h =
-    ⊎_elim (λ e. inl (some_same i d (ok_same _ _ (sym (cond-true (bytes_eq n (codes ".ksyms")) (Ok (Some i)) a e) ∙ h))))
-    (λ e. inr (sym (cond-false (bytes_eq n (codes ".ksyms")) (Ok (Some i)) a e) ∙ h)) (cases_Bool (bytes_eq n (codes ".ksyms")))
+here_at x i d a h = search rules
 
 section_at : (strings : List ℕ) (i d : ℕ) (ts : List BtfType) → section_from strings i ts ≡ Ok (Some d)
     → (k : ℕ) × (i + k ≡ d) × (k < length ts) × (is_data_sec (type_at ts k) ≡ true)
-section_at strings i d [] h = absurd (some_not d (sym (ok_same _ _ h)))
+section_at strings i d [] h = absurd (none-some d (ok_same _ _ h))
 section_at strings i d (t ∷ ts) h =
     let after : section_from strings (suc i) ts ≡ Ok (Some d) → (k : ℕ) × (i + k ≡ d) × (k < length (t ∷ ts)) × (is_data_sec (type_at (t ∷ ts) k) ≡ true) =
     λ g. let r = section_at strings (suc i) d ts g in let s = r.1 in let l = r.2 in (suc r.0, omega arith, omega arith, r.3) in
@@ -175,39 +164,15 @@ section_at strings i d (t ∷ ts) h =
     (λ e. after (sym (cond-false (is_data_sec t) _ _ e) ∙ h)) (cases_Bool (is_data_sec t))
 
 pub section_is : (strings : List ℕ) (ts : List BtfType) (d : ℕ) → section_from strings 0 ts ≡ Ok (Some d) → (d < length ts) × (is_data_sec (type_at ts d) ≡ true)
-section_is strings ts d h =
-    let r = section_at strings 0 d ts h in
-    let s : r.0 ≡ d = omega (arith, r.1) in
-    subst (λ k. (k < length ts) × (is_data_sec (type_at ts k) ≡ true)) s (r.2, r.3)
+section_is strings ts d h = search (rules, section_at)
 
--- ---- each span lies inside the table
-module _ (c n : ℕ) where
-  span_parts : (at : ℕ) (t : BtfType) (ts : List BtfType) → of_kind c t ≡ true → spans_follow c at (t ∷ ts) n ≡ true
-      → (t.start ≡ at) × (spans_follow c (at + t.len) ts n ≡ true)
-  span_parts at t ts s h = let p = and_parts _ _ (sym (cond-true _ _ _ s) ∙ h) in (eqb-true t.start at p.0, p.1)
-
-  span_other : (at : ℕ) (t : BtfType) (ts : List BtfType) → of_kind c t ≡ false → spans_follow c at (t ∷ ts) n ≡ true → spans_follow c at ts n ≡ true
-  span_other at t ts s h = sym (cond-false _ _ _ s) ∙ h
-
-  end_inside : (at : ℕ) (ts : List BtfType) → spans_follow c at ts n ≡ true → at ≤ n
-  end_inside at [] h = leb-true at n h
-  end_inside at (t ∷ ts) h =
-      ⊎_elim
-      (λ (s : of_kind c t ≡ true). let i = end_inside (at + t.len) ts (span_parts at t ts s h).1 in omega (arith, i))
-      (λ (s : of_kind c t ≡ false). end_inside at ts (span_other at t ts s h)) (cases_Bool (of_kind c t))
-
-  pub span_inside : (at : ℕ) (ts : List BtfType) → spans_follow c at ts n ≡ true → (d : ℕ) → d < length ts → of_kind c (type_at ts d) ≡ true
-      → (type_at ts d).start + (type_at ts d).len ≤ n
-  span_inside at [] h d lt s = absurd (omega arith)
-  span_inside at (t ∷ ts) h zero lt s =
-      let p = span_parts at t ts s h in
-      let i = end_inside (at + t.len) ts p.1 in
-      let e = p.0 in
-      omega arith
-  span_inside at (t ∷ ts) h (suc d) lt s =
-      ⊎_elim
-      (λ (e : of_kind c t ≡ true). span_inside (at + t.len) ts (span_parts at t ts e h).1 d (omega arith) s)
-      (λ (e : of_kind c t ≡ false). span_inside at ts (span_other at t ts e h) d (omega arith) s) (cases_Bool (of_kind c t))
+-- ---- the parts of a row of a kind
+pub parts_in : (k : ℕ) (ts : List BtfType) (d : ℕ) → d < length ts → of_kind k (type_at ts d) ≡ true → In (type_at ts d).parts (parts_of k ts)
+parts_in k [] d lt s = absurd (omega arith)
+parts_in k (t ∷ ts) zero lt s = subst (In t.parts) (sym (cond-true (of_kind k t) (t.parts ∷ parts_of k ts) (parts_of k ts) s)) (inl refl)
+parts_in k (t ∷ ts) (suc d) lt s =
+    let rest = parts_in k ts d (omega arith) s in
+    cond_both (of_kind k t) (t.parts ∷ parts_of k ts) (parts_of k ts) (In (type_at ts d).parts) (λ e. inr rest) (λ e. rest)
 
 -- ---- well-formed tables, part by part
 pub record Fits (t : Tables) : Type 0 where
@@ -216,38 +181,15 @@ pub record Fits (t : Tables) : Type 0 where
   pub params : length t.params ≤ MAX_ROWS
   pub strings : length t.strings ≤ MAX_NAMES
   pub void : void_first t.types ≡ true
-  pub parts : all parts_fit t.types ≡ true
-  pub sections : spans_follow 15 0 t.types (length t.entries) ≡ true
-  pub protos : spans_follow 13 0 t.types (length t.params) ≡ true
+  pub parts : list_all parts_fit t.types ≡ true
+  pub sections : follow 0 (parts_of 15 t.types) (length t.entries) ≡ true
+  pub protos : follow 0 (parts_of 13 t.types) (length t.params) ≡ true
 
 pub fits_is : (t : Tables) → tables_fit t ≡ true → Fits t
-fits_is t h =
-    let a = and_parts (few t) _ h in
-    let f = and_parts (leb (length t.types) MAX_ROWS) _ a.0 in
-    let g = and_parts (leb (length t.entries) MAX_ROWS) _ f.1 in
-    let k = and_parts (leb (length t.params) MAX_ROWS) _ g.1 in
-    let b = and_parts (void_first t.types) _ a.1 in
-    let c = and_parts (all parts_fit t.types) _ b.1 in
-    let d = and_parts (spans_follow 15 0 t.types (length t.entries)) _ c.1 in
-    record {
-      types = leb-true _ _ f.0;
-      entries = leb-true _ _ g.0;
-      params = leb-true _ _ k.0;
-      strings = leb-true _ _ k.1;
-      void = b.0;
-      parts = c.0;
-      sections = d.0;
-      protos = d.1;
-    }
+fits_is t h = grind (arith, common_steps)
 
 pub is_fit : (t : Tables) → Fits t → tables_fit t ≡ true
-is_fit t f =
-    and_from (few t) _
-    (and_from (leb (length t.types) MAX_ROWS) _ (le-leb _ _ f.types)
-    (and_from (leb (length t.entries) MAX_ROWS) _ (le-leb _ _ f.entries)
-    (and_from (leb (length t.params) MAX_ROWS) _ (le-leb _ _ f.params) (le-leb _ _ f.strings))))
-    (and_from (void_first t.types) _ f.void
-    (and_from (all parts_fit t.types) _ f.parts (and_from (spans_follow 15 0 t.types (length t.entries)) _ f.sections f.protos)))
+is_fit t f = search rules
 
 -- rows rewritten in their shape, entries and parameters as many as before, and the strings
 pub record Rewritten (t u : Tables) : Type 0 where
@@ -258,41 +200,16 @@ pub record Rewritten (t u : Tables) : Type 0 where
   pub header : u.header ≡ t.header
 
 pub rewritten_same : (t : Tables) → Rewritten t t
-rewritten_same t = record { types = alike_same t.types; entries = refl; params = refl; strings = refl; header = refl }
+rewritten_same t = search (rules, alike_same)
 
 pub rewritten_on : (t u v : Tables) → Rewritten t u → Rewritten u v → Rewritten t v
-rewritten_on t u v a b =
-    record {
-      types = alike_on t.types u.types v.types a.types b.types;
-      entries = b.entries ∙ a.entries;
-      params = b.params ∙ a.params;
-      strings = b.strings ∙ a.strings;
-      header = b.header ∙ a.header;
-    }
+rewritten_on t u v a b = search (rules, alike_on)
 
 pub rewritten_fits : (t u : Tables) → Rewritten t u → Fits t → Fits u
-rewritten_fits t u r f =
-    let n = alike_length t.types u.types r.types in
-    let e = r.entries in
-    let p = r.params in
-    let s = ap length r.strings in
-    let a = f.types in
-    let b = f.entries in
-    let c = f.params in
-    let d = f.strings in
-    record {
-      types = omega arith;
-      entries = omega arith;
-      params = omega arith;
-      strings = omega arith;
-      void = alike_void t.types u.types r.types ∙ f.void;
-      parts = alike_parts t.types u.types r.types ∙ f.parts;
-      sections = ap (spans_follow 15 0 u.types) e ∙ alike_spans 15 0 (length t.entries) t.types u.types r.types ∙ f.sections;
-      protos = ap (spans_follow 13 0 u.types) p ∙ alike_spans 13 0 (length t.params) t.types u.types r.types ∙ f.protos;
-    }
+rewritten_fits t u r f = search (rules, alike_length, alike_void, alike_parts, alike_spans)
 
 pub rewritten_section : (t u : Tables) → Rewritten t u → section_of u ≡ section_of t
-rewritten_section t u r = ap (λ s. section_from s 0 u.types) r.strings ∙ alike_section t.strings 0 t.types u.types r.types
+rewritten_section t u r = search (rules, alike_section)
 
 -- ---- one row more that has no parts
 pub record Plain (u : BtfType) : Type 0 where
@@ -302,20 +219,7 @@ pub record Plain (u : BtfType) : Type 0 where
 
 pub added_fits : (row : ℕ → BtfType) (name : List ℕ) (t : Tables) → Plain (row (length t.strings))
     → length t.types + 1 ≤ MAX_ROWS → length t.strings + length name ≤ MAX_NAMES → Fits t → Fits (added row name t)
-added_fits row name t p a b f =
-    let u = row (length t.strings) in
-    let n = length_push t.types u in
-    let s = length-append t.strings name in
-    record {
-      types = omega arith;
-      entries = f.entries;
-      params = f.params;
-      strings = omega arith;
-      void = void_push t.types _ f.void;
-      parts = parts_push t.types u f.parts p.parts;
-      sections = spans_push 15 0 _ t.types u p.section ∙ f.sections;
-      protos = spans_push 13 0 _ t.types u p.proto ∙ f.protos;
-    }
+added_fits row name t p a b f = search (rules, length_push, length-append, void_push, parts_push, spans_push)
 
 -- ---- longer tables
 pub record Longer (t u : Tables) : Type 0 where
@@ -330,34 +234,25 @@ pub longer_same : (t : Tables) → Longer t t
 longer_same t = record { rows = []; bytes = []; types = sym (append-nil t.types); strings = sym (append-nil t.strings); entries = refl; params = refl }
 
 pub longer_added : (row : ℕ → BtfType) (name : List ℕ) (t : Tables) → Longer t (added row name t)
-longer_added row name t = record { rows = row (length t.strings) ∷ []; bytes = name; types = refl; strings = refl; entries = refl; params = refl }
+longer_added row name t = search rules
 
 pub longer_on : (t u v : Tables) → Longer t u → Longer u v → Longer t v
-longer_on t u v a b =
-    record {
-      rows = a.rows ++ b.rows;
-      bytes = a.bytes ++ b.bytes;
-      types = b.types ∙ ap (λ x. x ++ b.rows) a.types ∙ append_assoc t.types a.rows b.rows;
-      strings = b.strings ∙ ap (λ x. x ++ b.bytes) a.strings ∙ append_assoc t.strings a.bytes b.bytes;
-      entries = b.entries ∙ a.entries;
-      params = b.params ∙ a.params;
-    }
+longer_on t u v a b = grind (arith, common_steps)
 
 pub longer_length : (t u : Tables) → Longer t u → length t.types ≤ length u.types
-longer_length t u l = let n = ap length l.types in let m = length-append t.types l.rows in omega arith
+longer_length t u l = grind (arith, common_steps)
 
 pub longer_at : (t u : Tables) → Longer t u → (i : ℕ) → i < length t.types → type_at u.types i ≡ type_at t.types i
-longer_at t u l i lt = ap (λ x. type_at x i) l.types ∙ get_or_append_left t.types l.rows no_row i lt
+longer_at t u l i lt = grind (arith, common_steps)
 
 pub longer_name : (t u : Tables) → Longer t u → (o : ℕ) → is_some (name_at t.strings o) ≡ true → name_at u.strings o ≡ name_at t.strings o
-longer_name t u l o h = ap (λ x. name_at x o) l.strings ∙ name_stays t.strings l.bytes o h
+longer_name t u l o h = search (rules, name_stays)
 
 pub longer_section : (t u : Tables) → Longer t u → (d : ℕ) → section_of t ≡ Ok (Some d) → section_of u ≡ Ok (Some d)
-longer_section t u l d h =
-    (λ i. section_from (l.strings i) 0 (l.types i)) ∙ section_grows t.strings l.bytes l.rows 0 d t.types h
+longer_section t u l d h = search (rules, section_grows)
 
 pub longer_entries : (t u : Tables) → Longer t u → (d : ℕ) → d < length t.types → entries_of u d ≡ entries_of t d
-longer_entries t u l d lt = λ i. take (longer_at t u l d lt i).len (drop (longer_at t u l d lt i).start (l.entries i))
+longer_entries t u l d lt = grind (arith, common_steps)
 
 -- ---- an id that declares, part by part
 pub record Declared (t : Tables) (id : ℕ) : Type 0 where
@@ -367,70 +262,45 @@ pub record Declared (t : Tables) (id : ℕ) : Type 0 where
   pub type : (type_at t.types id).size_or_type < length t.types
 
 pub declared_is : (t : Tables) (id : ℕ) → declares t id ≡ true → Declared t id
-declared_is t id h =
-    let a = and_parts (ltb id (length t.types)) _ h in
-    let b = and_parts (is_func (type_at t.types id) || is_var (type_at t.types id)) _ a.1 in
-    let c = and_parts (is_some (name_at t.strings (type_at t.types id).name_offset)) _ b.1 in
-    record { below = ltb-true _ _ a.0; kind = b.0; name = c.0; type = ltb-true _ _ c.1 }
+declared_is t id h = search rules
 
 pub is_declared : (t : Tables) (id : ℕ) → Declared t id → declares t id ≡ true
-is_declared t id d =
-    and_from (ltb id (length t.types)) _ (lt-ltb _ _ d.below)
-    (and_from (is_func (type_at t.types id) || is_var (type_at t.types id)) _ d.kind
-    (and_from (is_some (name_at t.strings (type_at t.types id).name_offset)) _ d.name (lt-ltb _ _ d.type)))
+is_declared t id d = search rules
 
 pub longer_declared : (t u : Tables) → Longer t u → (id : ℕ) → Declared t id → Declared u id
-longer_declared t u l id d =
-    let n = longer_length t u l in
-    let a = d.below in
-    let b = d.type in
-    let row = longer_at t u l id d.below in
-    record {
-      below = omega arith;
-      kind = ap (λ r. is_func r || is_var r) row ∙ d.kind;
-      name = ap (λ r. is_some (name_at u.strings r.name_offset)) row ∙ ap is_some (longer_name t u l _ d.name) ∙ d.name;
-      type = subst (λ r. r.size_or_type < length u.types) (sym row) (omega arith);
-    }
+longer_declared t u l id d = search (rules, longer_length, longer_at, longer_name)
 
 -- ---- the int row and the placeholder
 module _ {X : Type 0} (p : X → Bool) where
   pub lookup_below : (n : ℕ) (xs : List X) (k : ℕ × X) → lookup p n xs ≡ Some k → k.0 < n + length xs
-  lookup_below n [] k e = absurd (some_not k (sym e))
+  lookup_below n [] k e = absurd (none-some k e)
   lookup_below n (x ∷ xs) k e =
       ⊎_elim
-      (λ t. let q : n ≡ k.0 = ap (λ z. z.0) (some_same (n, x) k (sym (cond-true (p x) (Some (n, x)) (lookup p (suc n) xs) t) ∙ e)) in omega arith)
+      (λ t. let q : n ≡ k.0 = ap (λ z. z.0) (same_Some (n, x) k (sym (cond-true (p x) (Some (n, x)) (lookup p (suc n) xs) t) ∙ e)) in omega arith)
       (λ t. let r = lookup_below (suc n) xs k (sym (cond-false (p x) (Some (n, x)) (lookup p (suc n) xs) t) ∙ e) in omega (arith, r)) (cases_Bool (p x))
 
 number_some : {X : Type 0} (o : Option (ℕ × X)) (i : ℕ) → number_of o ≡ Some i → (k : ℕ × X) × (o ≡ Some k) × (k.0 ≡ i)
-number_some None i e = absurd (some_not i (sym e))
-number_some (Some k) i e = (k, refl, some_same k.0 i e)
+number_some None i e = absurd (none-some i e)
+number_some (Some k) i e = (k, refl, same_Some k.0 i e)
 
 pub first_below : (ts : List BtfType) (i : ℕ) → first_int ts ≡ Some i → i < length ts
-first_below ts i e =
-    let r = number_some (lookup is_int_of_four 0 ts) i e in
-    let b = lookup_below is_int_of_four 0 ts r.0 r.1 in
-    let s = r.2 in omega (arith, b)
+first_below ts i e = search (rules, number_some, lookup_below)
 
 pub room_parts : (rows bytes : ℕ) (t : Tables) → room_for rows bytes t ≡ true → (length t.types + rows ≤ MAX_ROWS) × (length t.strings + bytes ≤ MAX_NAMES)
-room_parts rows bytes t h =
-    let a = and_parts (leb (length t.types + rows) MAX_ROWS && leb (length t.strings + bytes) MAX_NAMES) _ h in
-    let b = and_parts (leb (length t.types + rows) MAX_ROWS) _ a.0 in
-    (leb-true _ _ b.0, leb-true _ _ b.1)
+room_parts rows bytes t h = search rules
 
 plain_int : (name : ℕ) → Plain (int_row name)
-plain_int name = record { section = refl; proto = refl; parts = refl }
+plain_int name = search rules
 
 plain_placeholder : (int name : ℕ) → Plain (placeholder_row int name)
-plain_placeholder int name = record { section = refl; proto = refl; parts = refl }
+plain_placeholder int name = search rules
 
 module _ (t : Tables) where
   pub int_longer : (o : Option ℕ) → Longer t (with_int o t).1
-  int_longer None = longer_added int_row int_name t
-  int_longer (Some i) = longer_same t
+  int_longer o = search (rules, longer_added, longer_same)
 
   pub int_below : (o : Option ℕ) → ((i : ℕ) → o ≡ Some i → i < length t.types) → (with_int o t).0 < length (with_int o t).1.types
-  int_below None h = let n = length_push t.types (int_row (length t.strings)) in omega arith
-  int_below (Some i) h = h i refl
+  int_below o h = grind (arith, common_steps)
 
   pub int_fits : (o : Option ℕ) → room_for_int o t ≡ true → Fits t → Fits (with_int o t).1
   int_fits None r f = let p = room_parts 1 (length int_name) t r in added_fits int_row int_name t (plain_int _) p.0 p.1 f

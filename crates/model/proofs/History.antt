@@ -1,7 +1,9 @@
 -- What a list of calls makes of one extern.
-use Rattle.std.proofs.Common.{◌≡◌, ℕ, Bool, true, false, cond, not, ◌||◌, eqb, List, [], ◌∷◌, map, is_some, Some, None, Option, sym, refl, ap, ◌∙◌, subst, inl, inr, ⊎_elim}
+use Rattle.std.proofs.lemmas.Grind.{common_steps}
+use Rattle.std.proofs.Common.{arith, rules, ◌≡◌, ℕ, Bool, true, false, cond, not, ◌||◌, eqb, List, [], ◌∷◌, map, is_some, Some, None, Option, sym, refl, ap, ◌∙◌, subst, inl, inr, ⊎_elim}
 use Rattle.std.proofs.lemmas.List.{map-id}
 use Rattle.std.proofs.lemmas.Bool.{cond-true, cond-false, cond_both, both_ways, true≢false, cases_Bool, eqb-true, eqb-false, and_parts, and_from, or_parts, or_left, or_cases, not-true}
+use Rattle.std.proofs.lemmas.Simd.{map-map}
 use Rattle.model.specs.Laws.{ListedBy, FoundBy, Wanted}
 use Rattle.model.specs.Externs.{Extern, Object, resolved_to, addressed}
 use Rattle.model.specs.Lines.{Line, said, first_address}
@@ -23,8 +25,7 @@ cond_map true f o new e = e
 cond_map false f o new e = sym (map-id o.externs)
 
 cond_same : (b : Bool) (o : Object) (new : Object) → new.externs ≡ o.externs → (cond b new o).externs ≡ map (λ x. x) o.externs
-cond_same true o new e = e ∙ sym (map-id o.externs)
-cond_same false o new e = sym (map-id o.externs)
+cond_same b o new e = grind (arith, common_steps)
 
 pub next_change : (s : Step) (st : State) → (next s st).object.externs ≡ map (change s st) st.object.externs
 unfolding change
@@ -64,36 +65,25 @@ module _ {r q : Extern} (k : Kept r q) where
   kept_weak = ap (λ x. x.weak) k.row
 
 pub kept_same : (r : Extern) → Kept r r
-kept_same r = record { row = refl; id = λ _. refl; stands = λ _ t. (t, refl) }
+kept_same r = search rules
 
 pub kept_both : (r q s : Extern) → Kept r q → Kept q s → Kept r s
-kept_both r q s k l =
-    record {
-      row = l.row ∙ ap (marked s.resolved s.id s.address) k.row;
-      id = λ n. l.id (kept_typed k ∙ n) ∙ k.id n;
-      stands = λ n t. let a = k.stands n t in let b = l.stands (kept_typed k ∙ n) a.0 in (b.0, b.1 ∙ a.1);
-    }
+kept_both r q s k l = search rules
 
 typed_not : {X : Type 0} (o : Option X) → is_some o ≡ true → o ≡ None → ⊥
-typed_not o t e = true≢false (sym t ∙ ap is_some e)
+typed_not o t e = search rules
 
 id_kept : (o : Option ℕ) (r : Extern) → is_some r.typed ≡ true → Kept r (given_id o r)
-id_kept None r t = kept_same r
-id_kept (Some i) r t = record { row = refl; id = λ n. absurd (typed_not _ t n); stands = λ n _. absurd (typed_not _ t n) }
+id_kept o r t = search rules
 
 settled_kept : (c : Option Catalogue) (ls : List Line) (r : Extern) → Kept r (settled c ls r)
-settled_kept c ls r =
-    cond_both (is_some r.typed) _ _ (λ q. Kept r q) (λ t. id_kept (fitting_id c r) r t)
-    (λ _. cond_both (r.resolved || eqb (first_address r.name ls) 0) r (resolved_to r.id (Some (first_address r.name ls)) r) (λ q. Kept r q) (λ _. kept_same r)
-    (λ t. record { row = refl; id = λ _. refl; stands = λ _ y. absurd (both_ways _ t (or_left _ _ y)) }))
+settled_kept c ls r = search rules
 
 zeroed_kept : (r : Extern) → Kept r (zeroed r)
-zeroed_kept r =
-    cond_both (r.resolved || not r.weak) r (addressed 0 r) (λ q. Kept r q) (λ _. kept_same r)
-    (λ t. record { row = refl; id = λ _. refl; stands = λ _ y. absurd (both_ways _ t (or_left _ _ y)) })
+zeroed_kept r = search rules
 
 pub given_kept : (c : Option Catalogue) (ls : List Line) (r : Extern) → Kept r (given c ls r)
-given_kept c ls r = kept_both _ _ _ (settled_kept c ls r) (zeroed_kept (settled c ls r))
+given_kept c ls r = search rules
 
 pub change_kept : (s : Step) (st : State) (r : Extern) → Kept r (change s st r)
 unfolding change
@@ -106,15 +96,11 @@ unfoldable pub after : List Step → State → Extern → Extern
 after [] st r = r
 after (s ∷ ss) st r = after ss (next s st) (change s st r)
 
-map_both : {X : Type 0} (f g : X → X) (xs : List X) → map g (map f xs) ≡ map (λ x. g (f x)) xs
-map_both f g [] = refl
-map_both f g (x ∷ xs) = ap (λ ys. g (f x) ∷ ys) (map_both f g xs)
-
 pub runs_after : (ss : List Step) (st : State) → (runs ss st).object.externs ≡ map (after ss st) st.object.externs
 unfolding after
 runs_after [] st = sym (map-id st.object.externs)
 runs_after (s ∷ ss) st =
-    runs_after ss (next s st) ∙ ap (map (after ss (next s st))) (next_change s st) ∙ map_both (change s st) (after ss (next s st)) st.object.externs
+    runs_after ss (next s st) ∙ ap (map (after ss (next s st))) (next_change s st) ∙ map-map (after ss (next s st)) (change s st) st.object.externs
 
 pub after_kept : (ss : List Step) (st : State) (r : Extern) → Kept r (after ss st r)
 unfolding after
@@ -124,13 +110,13 @@ after_kept (s ∷ ss) st r = kept_both _ _ _ (change_kept s st r) (after_kept ss
 -- ---- a typeless row is resolved by the addresses among the lines of granted resolutions
 module _ (c : Option Catalogue) (ls : List Line) (r : Extern) (typeless : r.typed ≡ None) where
   settled_is : settled c ls r ≡ given_address (first_address r.name ls) r
-  settled_is = cond-false _ _ _ (ap is_some typeless)
+  settled_is = search rules
 
   zeroed_mark : (q : Extern) → (zeroed q).resolved ≡ q.resolved
-  zeroed_mark q = cond_both (q.resolved || not q.weak) q (addressed 0 q) (λ (x : Extern). x.resolved ≡ q.resolved) (λ _. refl) (λ _. refl)
+  zeroed_mark q = search rules
 
   given_mark : (given c ls r).resolved ≡ (given_address (first_address r.name ls) r).resolved
-  given_mark = zeroed_mark (settled c ls r) ∙ ap (λ x. x.resolved) settled_is
+  given_mark = search rules
 
   pub mark_named : r.resolved ≡ false → (given c ls r).resolved ≡ true → (a : ℕ) × Tells ls r.name a
   mark_named u m =
@@ -140,10 +126,7 @@ module _ (c : Option Catalogue) (ls : List Line) (r : Extern) (typeless : r.type
       (sym given_mark ∙ m)
 
   pub named_mark : (a : ℕ) → Tells ls r.name a → (given c ls r).resolved ≡ true
-  named_mark a h =
-      given_mark
-      ∙ cond_both (r.resolved || eqb (first_address r.name ls) 0) r (resolved_to r.id (Some (first_address r.name ls)) r) (λ (x : Extern). x.resolved ≡ true)
-      (λ o. ⊎_elim (λ t. t) (λ t. absurd (in_found r.name ls a h (eqb-true _ 0 t))) (or_cases _ _ o)) (λ _. refl)
+  named_mark a h = search (rules, given_mark, in_found, eqb-true)
 
 module _ (st : State) (r : Extern) (typeless : r.typed ≡ None) where
   change_named : (s : Step) → r.resolved ≡ false → (change s st r).resolved ≡ true → (granted s st ≡ true) × ListedBy s r.name
@@ -185,12 +168,7 @@ found_resolved (s ∷ ss) st r n (inr f) =
 -- so what is wanted is known from the calls before
 module _ (ss : List Step) (st : State) (r : Extern) where
   pub wanted-Wanted : wanted (after ss st r) ≡ true → Wanted ss st r
-  wanted-Wanted w =
-      let p = and_parts _ _ w in
-      let n : r.typed ≡ None = sym (kept_typed (after_kept ss st r)) ∙ none_is _ (not-true _ p.0) in
-      (n, λ f. both_ways _ (not-true _ p.1) (found_resolved ss st r n f))
+  wanted-Wanted w = search (rules, kept_typed, after_kept, none_is, not-true, both_ways, found_resolved)
 
   pub Wanted-wanted : r.resolved ≡ false → Wanted ss st r → wanted (after ss st r) ≡ true
-  Wanted-wanted u (n, h) =
-      and_from _ _ (ap (λ o. not (is_some o)) (kept_typed (after_kept ss st r) ∙ n))
-      (⊎_elim (λ t. absurd (h (resolved_found ss st r n u t))) (λ t. ap not t) (cases_Bool (after ss st r).resolved))
+  Wanted-wanted u h = search (rules, kept_typed, after_kept, resolved_found)

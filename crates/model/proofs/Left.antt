@@ -1,5 +1,5 @@
 -- What a refused call leaves, and what relocation leaves.
-use Rattle.std.proofs.Common.{◌≡◌, ℕ, Bool, true, false, cond, List, refl, ap, ◌∙◌, ⊎_elim}
+use Rattle.std.proofs.Common.{rules, ◌≡◌, ℕ, Bool, true, false, cond, List, refl, ap, ◌∙◌, ⊎_elim}
 use Rattle.std.proofs.lemmas.Bool.{cond-false, cases_Bool}
 use Rattle.model.specs.Externs.{Object}
 use Rattle.model.specs.Relocate.{taken, slot_at}
@@ -12,24 +12,16 @@ use Rattle.model.proofs.Loads.{leaves}
 
 -- ---- a refused call
 same_state : (st : State) (o : Object) (code : List ℕ) → o ≡ st.object → code ≡ st.code → ◌≡◌ {A = State} (record { object = o; code = code }) st
-same_state st o code p q = λ i. record { object = p i; code = q i }
+same_state st o code p q = search rules
 
 same_object : (b : Bool) (o : Object) → cond b o o ≡ o
-same_object true o = refl
-same_object false o = refl
+same_object b o = search rules
 
 same_code : (b : Bool) (bs : List ℕ) → cond b bs bs ≡ bs
-same_code true bs = refl
-same_code false bs = refl
+same_code b bs = search rules
 
 pub refused_changes_nothing : RefusedChangesNothing
-refused_changes_nothing =
-    record {
-      collection = λ o ss e h. ap (λ r. left_by r o) h;
-      resolution = λ c ls e st g. same_state st _ _ (cond-false (granted (resolve c ls e) st) _ _ g) (same_code (fits (resolve c ls e) st) st.code);
-      fix = λ st g. same_state st _ _ (cond-false (granted fixup st) _ _ g) (same_code (fits fixup st) st.code);
-      relocation = λ p st. same_object (granted (relocate p) st) st.object;
-    }
+refused_changes_nothing = search (rules, same_state, same_code, same_object)
 
 -- ---- relocation
 pub relocation_leaves_other_slots : RelocationLeavesOtherSlots

@@ -1,5 +1,6 @@
 pub mod Lookups
 pub mod Listed
+pub mod Followed
 pub mod Granted
 pub mod History
 pub mod Grants

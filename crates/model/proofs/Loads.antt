@@ -1,15 +1,17 @@
 -- What relocation makes of the slots, and of a load's two slots.
-use Rattle.std.proofs.Common.{◌≡◌, ℕ, suc, ◌+◌, ◌<◌, ◌≤◌, Bool, true, false, cond, eqb, ◌⊎◌, List, [], ◌∷◌, ◌++◌, length, set, ℤ, pos, is_some, Some, None, Ok, Err, Option, Result, sym, refl, ap, ◌∙◌, subst, inl, inr, ⊎_elim, arith, w16, w32, SFits}
+use Rattle.std.proofs.lemmas.Grind.{common_steps}
+use Rattle.std.proofs.Common.{rules, ◌≡◌, ℕ, suc, ◌+◌, ◌<◌, Bool, true, false, cond, eqb, ◌⊎◌, List, [], ◌∷◌, ◌++◌, length, set, ℤ, pos, is_some, Some, None, Ok, Err, Option, Result, sym, refl, ap, ◌∙◌, subst, inl, inr, ⊎_elim, arith, w16, w32, SFits}
 use borrow.Author.Gap.{read_sfits}
 use Rattle.std.proofs.lemmas.List.{length-set, get_or-set_same, get_or-set_other, set_past}
-use Rattle.std.proofs.lemmas.Bool.{cond-true, cond-false, cond_both, cases_Bool, cases_eq, cases_lt, eqb-true, ltb-true, leb-true, and_parts}
+use Rattle.std.proofs.lemmas.Bool.{cond-true, cond-false, cond_both, cases_Bool, cases_eq, cases_lt, eqb-true, ltb-true}
+use Rattle.std.proofs.lemmas.Option.{none-some}
 use Rattle.model.specs.Externs.{Extern, extern_named}
 use Rattle.model.specs.Laws.{name_in, name_of, Touches, LoadAlone}
 use Rattle.model.specs.Lists.{In}
-use Rattle.model.specs.Names.{part}
-use Rattle.model.specs.Relocate.{Program, Taken, taken, taken_in, points_into, functions_follow, on_slot, slot_index, has_next, symbol_of, slot_at, is_call, is_load, call_slot, load_value, with_call, with_pair, with_load, patch_extern, patch_found, patch_name, patch_symbol, patch, patched, relocated, extern_name}
+use Rattle.model.specs.Relocate.{Program, slots_of, Taken, taken, taken_in, points_into, on_slot, slot_index, has_next, symbol_of, slot_at, is_call, is_load, call_slot, load_value, with_call, with_pair, with_load, patch_extern, patch_found, patch_name, patch_symbol, patch, patched, relocated, extern_name}
 use Rattle.model.specs.SlotLaws.{FitsSlot}
 use Rattle.model.specs.Slots.{LOAD, CALL, low, high, with_imm, with_src}
+use Rattle.model.specs.Spans.{part, follow}
 use Rattle.model.specs.Tables.{Symbols}
 use Rattle.model.specs.declared.refusal.Reason.{Reason}
 use Rattle.model.specs.declared.rows.Function.{Function}
@@ -17,8 +19,9 @@ use Rattle.model.specs.declared.rows.Relocation.{Relocation}
 use Rattle.model.specs.declared.rows.Slot.{Slot}
 use Rattle.model.specs.declared.rows.Span.{Span}
 use Rattle.model.specs.declared.rows.Symbol.{Symbol}
+use Rattle.model.proofs.Followed.{follow_in}
 use Rattle.model.proofs.Granted.{go_on}
-use Rattle.model.proofs.Lookups.{some_not, ok_same, err_not}
+use Rattle.model.proofs.Lookups.{ok_same, err_not, in_map}
 
 -- ---- where the relocations taken point
 in_append : {X : Type 0} (xs ys : List X) (x : X) → In x (xs ++ ys) → In x xs ⊎ In x ys
@@ -42,20 +45,6 @@ taken_of : (fs : List Function) (rs : List Relocation) (t : Taken) → In t (tak
 taken_of [] rs t i = absurd i
 taken_of (f ∷ fs) rs t i = ⊎_elim (λ j. inl (taken_in_of f 0 rs t j)) (λ j. inr (taken_of fs rs t j)) (in_append (taken_in f 0 rs) (taken fs rs) t i)
 
-follow_le : (at n : ℕ) (fs : List Function) → functions_follow at n fs ≡ true → at ≤ n
-follow_le at n [] h = leb-true at n h
-follow_le at n (f ∷ fs) h = let k = follow_le (at + f.len) n fs (and_parts (eqb f.start at) (functions_follow (at + f.len) n fs) h).1 in omega arith
-
-follow_in : (at n : ℕ) (fs : List Function) (f : Function) → functions_follow at n fs ≡ true → In f fs → f.start + f.len ≤ n
-follow_in at n [] f h i = absurd i
-follow_in at n (g ∷ fs) f h (inl q) =
-    let p = and_parts (eqb g.start at) _ h in
-    let s = eqb-true g.start at p.0 in
-    let k = follow_le (at + g.len) n fs p.1 in
-    let e : g.start + g.len ≤ n = omega arith in
-    subst (λ x. x.start + x.len ≤ n) q e
-follow_in at n (g ∷ fs) f h (inr i) = follow_in (at + g.len) n fs f (and_parts _ _ h).1 i
-
 -- ---- what one relocation changes
 abbrev pub EachFits : List Slot → Type 0
 EachFits code = (i : ℕ) → FitsSlot (slot_at code i)
@@ -68,31 +57,17 @@ record Changed (T : ℕ → Type 0) (old new : List Slot) : Type 0 where
   fit : EachFits old → EachFits new
 
 changed_none : (T : ℕ → Type 0) (code : List Slot) → Changed T code code
-changed_none T code = record { len = refl; codes = λ _. refl; others = λ _ _. refl; fit = λ f. f }
+changed_none T code = search rules
 
 changed_both : (T : ℕ → Type 0) (a b c : List Slot) → Changed T a b → Changed T b c → Changed T a c
-changed_both T a b c p q =
-    record { len = q.len ∙ p.len; codes = λ i. q.codes i ∙ p.codes i; others = λ i h. q.others i h ∙ p.others i h; fit = λ f. q.fit (p.fit f) }
+changed_both T a b c p q = search rules
 
 -- a property of every slot, after one is set
 set_each : (P : Slot → Type 0) (code : List Slot) (i : ℕ) (s : Slot) (j : ℕ) → (j ≡ i → P s) → P (slot_at code j) → P (slot_at (set code i s) j)
-set_each P code i s j h k =
-    ⊎_elim
-    (λ q. ⊎_elim
-    (λ l. subst (λ x. P (slot_at (set code i s) x)) (sym q) (subst P (sym (get_or-set_same code i s _ l)) (h q)))
-    (λ l. subst (λ xs. P (slot_at xs j)) (sym (set_past code i s l)) k)
-    (cases_lt i (length code)))
-    (λ q. subst P (sym (get_or-set_other code i j s _ q)) k)
-    (cases_eq j i)
+set_each P code i s j h k = grind (arith, common_steps)
 
 changed_set : (T : ℕ → Type 0) (code : List Slot) (i : ℕ) (s : Slot) → T i → s.code ≡ (slot_at code i).code → (EachFits code → FitsSlot s) → Changed T code (set code i s)
-changed_set T code i s t e f =
-    record {
-      len = length-set code i s;
-      codes = λ j. set_each (λ x. x.code ≡ (slot_at code j).code) code i s j (λ q. e ∙ ap (λ x. (slot_at code x).code) (sym q)) refl;
-      others = λ j h. get_or-set_other code i j s _ (λ q. h (subst T (sym q) t));
-      fit = λ g j. set_each FitsSlot code i s j (λ _. f g) (g j);
-    }
+changed_set T code i s t e f = grind (arith, common_steps)
 
 -- ---- a call
 record Kin (s new : Slot) : Type 0 where
@@ -110,12 +85,7 @@ src_fits r s h = omega arith
 
 module _ (name : Span) (t : Taken) (s new : Slot) (h : s.code ≡ CALL) where
   call_kin : (id : Option ℕ) (resolved weak : Bool) → call_slot id resolved weak name t s ≡ Ok new → Kin s new
-  call_kin (Some id) resolved weak e =
-      subst (Kin s) (ok_same _ new e) (record { code = refl; fit = λ f. record { code = f.code; regs = src_fits 2 s (omega arith); off = zero_fits_16; imm = read_sfits w32 _ } })
-  call_kin None true weak e = absurd (err_not _ new e)
-  call_kin None false true e =
-      subst (Kin s) (ok_same _ new e) (record { code = sym h; fit = λ f. record { code = omega arith; regs = omega arith; off = zero_fits_16; imm = read_sfits w32 _ } })
-  call_kin None false false e = absurd (err_not _ new e)
+  call_kin id resolved weak e = search rules
 
 -- ---- a load
 abbrev ValueFits : Option (ℕ × ℤ × ℤ) → Type 0
@@ -123,10 +93,7 @@ ValueFits None = Unit {0}
 ValueFits (Some v) = (v.0 < 16) × SFits w32 v.1 × SFits w32 v.2
 
 value_fits : (id address : Option ℕ) (weak : Bool) → ValueFits (load_value id address weak)
-value_fits (Some id) address weak = (omega arith, read_sfits w32 _, zero_fits_32)
-value_fits None (Some a) weak = (omega arith, read_sfits w32 _, read_sfits w32 _)
-value_fits None None true = (omega arith, zero_fits_32, zero_fits_32)
-value_fits None None false = tt
+value_fits id address weak = search rules
 
 module _ (T : ℕ → Type 0) (code new : List Slot) where
   call_changed : (t : Taken) (p : Result Slot Reason) → T (slot_index t) → ((s : Slot) → p ≡ Ok s → Kin (slot_at code (slot_index t)) s) → with_call code t p ≡ Ok new → Changed T code new
@@ -136,22 +103,10 @@ module _ (T : ℕ → Type 0) (code new : List Slot) where
   call_changed t (Err r) i h e = absurd (err_not r new e)
 
   pair_changed : (i : ℕ) (v : ℕ × ℤ × ℤ) → ValueFits (Some v) → T i → T (i + 1) → Changed T code (with_pair code i v)
-  pair_changed i v f t u =
-      let s = with_imm v.1 (with_src v.0 (slot_at code i)) in
-      let ne : i + 1 ≡ i → ⊥ = omega arith in
-      let q : slot_at (set code i s) (i + 1) ≡ slot_at code (i + 1) = get_or-set_other code i (i + 1) s _ ne in
-      changed_both T _ _ _
-      (changed_set T code i s t refl (λ g. record { code = (g i).code; regs = src_fits v.0 (slot_at code i) f.0; off = (g i).off; imm = f.1 }))
-      (changed_set T (set code i s) (i + 1) (with_imm v.2 (slot_at code (i + 1))) u (sym (ap (λ x. x.code) q))
-      (λ g. let k = subst FitsSlot q (g (i + 1)) in record { code = k.code; regs = k.regs; off = k.off; imm = f.2 }))
+  pair_changed i v f t u = grind (arith, common_steps)
 
   load_changed : (name : Span) (t : Taken) (o : Option (ℕ × ℤ × ℤ)) → ValueFits o → T (slot_index t) → T (slot_index t + 1) → with_load code name t o ≡ Ok new → Changed T code new
-  load_changed name t None f p q e = absurd (err_not _ new e)
-  load_changed name t (Some v) f p q e =
-      ⊎_elim
-      (λ n. subst (Changed T code) (ok_same _ new (sym (cond-true (has_next t) (Ok (with_pair code (slot_index t) v)) (Err _) n) ∙ e)) (pair_changed (slot_index t) v f p q))
-      (λ n. absurd (err_not _ new (sym (cond-false (has_next t) (Ok (with_pair code (slot_index t) v)) (Err _) n) ∙ e)))
-      (cases_Bool (has_next t))
+  load_changed name t o f p q e = search (rules, err_not, ok_same, pair_changed)
 
   extern_changed : (x : Extern) (name : Span) (t : Taken) → T (slot_index t) → (is_load (slot_at code (slot_index t)) ≡ true → T (slot_index t + 1)) → patch_extern x name t code ≡ Ok new → Changed T code new
   extern_changed x name t p q =
@@ -169,15 +124,13 @@ module _ (xs : List Extern) (code new : List Slot) (t : Taken) where
   found_changed n (Some k) e = extern_changed (Reach code t (Some n)) code new k.1 n t (refl, inl refl) (λ l. (refl, inr (l, refl))) e
 
   name_changed : (names : List ℕ) (o : Option Span) → patch_name xs names o t code ≡ Ok new → Changed (Reach code t o) code new
-  name_changed names None e = subst (Changed (Reach code t None) code) (ok_same _ new e) (changed_none (Reach code t None) code)
-  name_changed names (Some n) e = found_changed n (extern_named (part names n) xs) e
+  name_changed names o e = search (rules, ok_same, changed_none, found_changed)
 
   symbol_changed : (names : List ℕ) (o : Option (ℕ × Symbol)) → patch_symbol xs names o t code ≡ Ok new → Changed (Reach code t (name_in o)) code new
-  symbol_changed names None e = absurd (err_not _ new e)
-  symbol_changed names (Some k) e = name_changed names (extern_name k.1) e
+  symbol_changed names o e = search (rules, err_not, name_changed)
 
   patch_changed : (ss : Symbols) → patch xs ss t code ≡ Ok new → Changed (Touches ss code t) code new
-  patch_changed ss = cond_both (on_slot t) _ _ (λ x. x ≡ Ok new → Changed (Touches ss code t) code new) (λ _. symbol_changed ss.names (symbol_of ss t)) (λ _ e. absurd (err_not _ new e))
+  patch_changed ss = search (rules, symbol_changed, err_not)
 
 -- ---- all of them
 -- the codes of the slots are those at the start
@@ -192,8 +145,7 @@ module _ (xs : List Extern) (ss : Symbols) where
       record { size = c.len ∙ k.size; same = λ i. c.codes i ∙ k.same i }
 
   touches_old : (old code : List Slot) (t : Taken) (i : ℕ) → Codes old code → Touches ss code t i → Touches ss old t i
-  touches_old old code t i k (n, inl q) = (n, inl q)
-  touches_old old code t i k (n, inr (l, q)) = (n, inr (ap (λ c. eqb c LOAD) (sym (k.same (slot_index t))) ∙ l, q))
+  touches_old old code t i k h = search rules
 
   -- refused or not: the slots are as many, they fit, and one that no relocation touches is as before
   pub patched_size : (ts : List Taken) (code : List Slot) → length (patched xs ss ts code).0 ≡ length code
@@ -232,13 +184,7 @@ module _ (xs : List Extern) (ss : Symbols) where
     end : patched xs ss (t ∷ ts) code ≡ patched xs ss ts new
 
   stepped : (t : Taken) (ts : List Taken) (code : List Slot) → (patched xs ss (t ∷ ts) code).1 ≡ None → Stepped t ts code
-  stepped t ts code h =
-      let by : (p : Result (List Slot) Reason) → patch xs ss t code ≡ p → (go_on xs ss ts code p).1 ≡ None → Stepped t ts code =
-      elim [
-        | Ok new ↦ λ e k. record { new = new; ok = e; left = k; end = ap (go_on xs ss ts code) e }
-        | Err x ↦ λ e k. absurd (some_not x k)
-      ] in
-      by (patch xs ss t code) refl h
+  stepped t ts code h = grind (arith, common_steps)
 
   -- one of them, with those before it made and those after it to come
   record Reached (old code : List Slot) (front : List Taken) (t : Taken) (back : List Taken) : Type 0 where
@@ -256,8 +202,7 @@ module _ (xs : List Extern) (ss : Symbols) where
 
 -- ---- a load
 symbol_named : (xs : List Extern) (names : List ℕ) (t : Taken) (code : List Slot) (n : Span) (o : Option (ℕ × Symbol)) → name_in o ≡ Some n → patch_symbol xs names o t code ≡ patch_found (extern_named (part names n) xs) n t code
-symbol_named xs names t code n None e = absurd (some_not n (sym e))
-symbol_named xs names t code n (Some k) e = ap (λ m. patch_name xs names m t code) e
+symbol_named xs names t code n o e = search rules
 
 module _ (xs : List Extern) (ss : Symbols) (t : Taken) (code new : List Slot) (n : Span) (a : ℕ) (k : ℕ × Extern) where
   load_new :
@@ -268,20 +213,7 @@ module _ (xs : List Extern) (ss : Symbols) (t : Taken) (code new : List Slot) (n
       → k.1.address ≡ Some a
       → is_load (slot_at code (slot_index t)) ≡ true
       → (has_next t ≡ true) × (with_pair code (slot_index t) (0, low a, high a) ≡ new)
-  load_new ok name row id address load =
-      let sy = patch_symbol xs ss.names (symbol_of ss t) t code in
-      let p : patch_found (extern_named (part ss.names n) xs) n t code ≡ Ok new =
-      sym (symbol_named xs ss.names t code n (symbol_of ss t) name) ∙ cond_both (on_slot t) sy _ (λ x. x ≡ Ok new → sy ≡ Ok new) (λ _ e. e) (λ _ e. absurd (err_not _ new e)) ok in
-      let q : patch_extern k.1 n t code ≡ Ok new = sym (ap (λ o. patch_found o n t code) row) ∙ p in
-      let c : is_call (slot_at code (slot_index t)) ≡ false = ap (λ x. eqb x CALL) (eqb-true _ LOAD load) in
-      let v : load_value k.1.id k.1.address k.1.weak ≡ Some (0, low a, high a) =
-      ap (λ o. load_value o k.1.address k.1.weak) id ∙ ap (λ o. load_value None o k.1.weak) address in
-      let w : cond (has_next t) (Ok (with_pair code (slot_index t) (0, low a, high a))) (Err (Reason.InvalidRelocationOffset t.row)) ≡ Ok new =
-      sym (ap (with_load code n t) v) ∙ sym (cond-true _ _ _ load) ∙ sym (cond-false _ _ _ c) ∙ q in
-      ⊎_elim
-      (λ h. (h, ok_same _ new (sym (cond-true (has_next t) _ _ h) ∙ w)))
-      (λ h. absurd (err_not _ new (sym (cond-false (has_next t) _ _ h) ∙ w)))
-      (cases_Bool (has_next t))
+  load_new ok name row id address load = search rules
 
 -- the two slots hold what a pair gets: the first with the source register 0
 pub record Paired (new old : List Slot) (i a : ℕ) : Type 0 where
@@ -289,15 +221,7 @@ pub record Paired (new old : List Slot) (i a : ℕ) : Type 0 where
   pub second : slot_at new (i + 1) ≡ with_imm (high a) (slot_at old (i + 1))
 
 pair_holds : (code : List Slot) (i a : ℕ) → i + 1 < length code → Paired (with_pair code i (0, low a, high a)) code i a
-pair_holds code i a h =
-    let s = with_imm (low a) (with_src 0 (slot_at code i)) in
-    let ne : i ≡ i + 1 → ⊥ = omega arith in
-    let l : i < length code = omega arith in
-    let m : i + 1 < length (set code i s) = subst (λ n. i + 1 < n) (sym (length-set code i s)) h in
-    record {
-      first = get_or-set_other (set code i s) (i + 1) i _ _ ne ∙ get_or-set_same code i s _ l;
-      second = get_or-set_same (set code i s) (i + 1) _ _ m;
-    }
+pair_holds code i a h = search rules
 
 -- a load of a name alone on its slots, in a granted relocation of functions that lie among the slots
 pub loads_hold :
@@ -305,19 +229,19 @@ pub loads_hold :
     → extern_named n xs ≡ Some k
     → k.1.id ≡ None
     → k.1.address ≡ Some a
-    → functions_follow 0 (length code) p.functions ≡ true
+    → follow 0 (slots_of p.functions) (length code) ≡ true
     → (relocated xs p code).1 ≡ None
     → (front : List Taken) (t : Taken) (back : List Taken)
     → taken p.functions p.relocations ≡ front ++ t ∷ back
     → LoadAlone n p.symbols code front t back
     → (here : List Slot) × Paired (relocated xs p code).0 here (slot_index t) a
-loads_hold xs p code n a k row id address follow g front t back split alone =
+loads_hold xs p code n a k row id address spans g front t back split alone =
     let ss = p.symbols in
     let h : (patched xs ss (front ++ t ∷ back) code).1 ≡ None = ap (λ ts. (patched xs ss ts code).1) (sym split) ∙ g in
     let r = reached xs ss code front t back code (record { size = refl; same = λ _. refl }) h in
     let s = r.step in
     let l = load_new xs ss t r.here s.new alone.place a k s.ok alone.symbol (ap (λ m. extern_named m xs) alone.name ∙ row) id address (ap (λ c. eqb c LOAD) (r.same.same (slot_index t)) ∙ alone.load) in
-    let span = follow_in 0 (length code) p.functions t.function follow (taken_of p.functions p.relocations t (subst (In t) (sym split) (in_right front (t ∷ back) t (inl refl)))) in
+    let span = follow_in (length code) 0 (slots_of p.functions) spans _ (in_map (λ (f : Function). f.slots) p.functions t.function (taken_of p.functions p.relocations t (subst (In t) (sym split) (in_right front (t ∷ back) t (inl refl))))) in
     let room : slot_index t + 1 < length r.here = subst (λ m. slot_index t + 1 < m) (sym r.same.size) (let x = ltb-true _ _ l.0 in omega arith) in
     let b = pair_holds r.here (slot_index t) a room in
     let codes = codes_more xs ss code r.here s.new t r.same s.ok in

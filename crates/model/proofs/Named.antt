@@ -1,5 +1,5 @@
 -- The laws of names, of chains and of the lookup.
-use Rattle.std.proofs.Common.{◌≡◌, ℕ, zero, suc, ◌+◌, ◌<◌, ◌≤◌, Bool, true, false, eqb, ltb, ◌⊎◌, ◌↔◌, List, [], ◌∷◌, ◌++◌, length, get_or, drop, Some, None, Ok, Err, Option, Result, refl, ap, ◌∙◌, subst, inl, inr, arith}
+use Rattle.std.proofs.Common.{rules, ◌≡◌, ℕ, zero, suc, ◌+◌, ◌<◌, ◌≤◌, Bool, true, false, eqb, ltb, ◌⊎◌, ◌↔◌, List, [], ◌∷◌, ◌++◌, length, get_or, drop, Some, None, Ok, Err, Option, Result, refl, ap, ◌∙◌, subst, inl, inr, arith}
 use Rattle.std.specs.Option.{option_map}
 use Rattle.std.specs.List.{AllByRecursion}
 use Rattle.std.proofs.lemmas.List.{length-drop, length-take-le}
@@ -7,7 +7,7 @@ use Rattle.std.proofs.lemmas.Bool.{leb-true, cond_both, cond-true, cond-false, e
 use Rattle.model.specs.Chain.{type_at, chain}
 use Rattle.model.specs.Kinds.{passes_on}
 use Rattle.model.specs.Lists.{lookup}
-use Rattle.model.specs.NameLaws.{NamesEndAtZero, EssentialNames, RowsKeepTheirNames, Leads, ChainsEnd, FindsTheFirst, LookupsFindTheFirst}
+use Rattle.model.specs.NameLaws.{NamesEndAtZero, EssentialNames, Leads, ChainsEnd, FindsTheFirst, LookupsFindTheFirst}
 use Rattle.model.specs.Names.{to_zero, essential, bars}
 use Rattle.model.specs.declared.btf.BtfType.{BtfType}
 use Rattle.model.specs.declared.btf.ChainError.{ChainError}
@@ -77,7 +77,7 @@ ended (suc m) ts id =
 
 goes_on : (m : ℕ) (ts : List BtfType) (id : ℕ) → id < length ts → passes_on (type_at ts id) ≡ true → chain (suc m) ts id ≡ chain m ts (type_at ts id).size_or_type
 unfolding chain
-goes_on m ts id lt p = cond-true _ _ _ (lt-ltb _ _ lt) ∙ cond-true _ _ _ p
+goes_on m ts id lt p = search rules
 
 -- and the outcome is the one that this is said of
 reached : (m : ℕ) (ts : List BtfType) (id : ℕ) (r : Result ℕ ChainError) → Ended m ts id r → chain m ts id ≡ r
@@ -108,8 +108,7 @@ module _ {X : Type 0} (has : X → Bool) (d : X) where
 
   -- a row before those that do not have the key
   none_more : (x : X) (xs : List X) (k : ℕ) → has x ≡ false → ((j : ℕ) → j < k → has (get_or xs j d) ≡ false) → (j : ℕ) → j < suc k → has (get_or (x ∷ xs) j d) ≡ false
-  none_more x xs k t h zero l = t
-  none_more x xs k t h (suc j) l = h j (omega arith)
+  none_more x xs k t h j l = search rules
 
   looked_more : (n : ℕ) (x : X) (xs : List X) → has x ≡ false → (o : Option (ℕ × X)) → Looked (suc n) xs o → Looked n (x ∷ xs) o
   looked_more n x xs t None h = none_more x xs (length xs) t h
@@ -126,7 +125,7 @@ module _ {X : Type 0} (has : X → Bool) (d : X) where
   none_has n (x ∷ xs) h = cond-false _ _ _ (h 0 (omega arith)) ∙ none_has (suc n) xs (λ j l. h (suc j) (omega arith))
 
   first_row : (xs : List X) (k : ℕ) (x : X) → Looked 0 xs (Some (k, x)) → First xs k x
-  first_row xs k x (j, e, f) = let is : j ≡ k = omega arith in subst (λ i. First xs i x) is f
+  first_row xs k x h = search rules
 
 pub finds_the_first : (X : Type 0) → FindsTheFirst X
 finds_the_first X =
@@ -136,12 +135,4 @@ finds_the_first X =
     }
 
 pub lookups_find_the_first : LookupsFindTheFirst
-lookups_find_the_first = record { symbols = finds_the_first _; externs = finds_the_first _; catalogue = finds_the_first _; types = finds_the_first _ }
-
--- ---- the place of an extern's name
-pub rows_keep_their_names : RowsKeepTheirNames
-rows_keep_their_names t x h =
-    let l = leb-true (x.name.start + x.name.len) (length t.strings) h in
-    let d = length-drop x.name.start t.strings in
-    let n : x.name.len ≤ length (drop x.name.start t.strings) = omega arith in
-    λ i. record { start = x.name.start; len = length-take-le x.name.len (drop x.name.start t.strings) n i }
+lookups_find_the_first = search (rules, finds_the_first)

@@ -1,13 +1,15 @@
 -- On well-formed tables no call is refused for its tables.
-use Rattle.std.proofs.Common.{◌≡◌, ℕ, suc, Bool, true, false, cond, eqb, List, [], ◌∷◌, map, ℤ, is_some, Some, None, Ok, Err, Option, Result, sym, refl, ap, ◌∙◌}
+use Rattle.std.proofs.Common.{rules, ◌≡◌, ℕ, suc, Bool, true, false, cond, eqb, List, [], ◌∷◌, map, ℤ, is_some, Some, None, Ok, Err, Option, Result, sym, refl, ap, ◌∙◌}
+use Rattle.std.specs.Option.{option_or}
 use Rattle.std.proofs.lemmas.Bool.{cond_both, eq-eqb, true≢false}
+use Rattle.std.proofs.lemmas.Option.{same_Some}
 use Rattle.kallsyms.specs.declared.ends.End.{End}
 use Rattle.kallsyms.specs.declared.ends.End.TheVariants.{Clean, Broken}
 use Rattle.model.specs.Externs.{Extern}
 use Rattle.model.specs.Fixup.{fix_refusal_for}
 use Rattle.model.specs.Lines.{Line, said}
 use Rattle.model.specs.Lines.Line.{line, short}
-use Rattle.model.specs.Lists.{or_else, first, numbered}
+use Rattle.model.specs.Lists.{first, numbered}
 use Rattle.model.specs.Refusals.{told}
 use Rattle.model.specs.Relocate.{Taken, taken, call_slot, with_call, load_value, with_load, patch_extern, patch_found, patch_name, patch_symbol, patch, patched, extern_name, symbol_of, slot_at, slot_index, is_call, is_load}
 use Rattle.model.specs.Resolve.{candidate, row_refusal, missing_row, unfit_row, catalogue_refusal, typed_refusal, address_refusal, wanted_refusal, line_refusal, end_refusal, missing_refusal, lines_refusal}
@@ -22,14 +24,13 @@ use Rattle.model.specs.declared.rows.Slot.{Slot}
 use Rattle.model.specs.declared.rows.Span.{Span}
 use Rattle.model.specs.declared.rows.Symbol.{Symbol}
 use Rattle.model.proofs.Granted.{go_on}
-use Rattle.model.proofs.Lookups.{some_same}
 
 -- ---- a reason of another number than 1
 abbrev Other : Reason → Type 0
 Other r = (told r).number ≡ Some 1 → ⊥
 
 other : (n : ℕ) → eqb n 1 ≡ false → Some n ≡ Some 1 → ⊥
-other n f e = true≢false (sym (eq-eqb n 1 (some_same n 1 e)) ∙ f)
+other n f e = search rules
 
 abbrev Others : Option Reason → Type 0
 Others None = Unit {0}
@@ -43,13 +44,11 @@ abbrev OtherErr : {X : Type 0} → Result X Reason → Type 0
 OtherErr (Ok x) = Unit {0}
 OtherErr (Err e) = Other e
 
-else_others : (x y : Option Reason) → Others x → Others y → Others (or_else x y)
-else_others None y h k = k
-else_others (Some r) y h k = h
+else_others : (x y : Option Reason) → Others x → Others y → Others (option_or x y)
+else_others x y h k = search rules
 
 numbered_others : (n : ℕ) (o : Option (ℕ → Reason)) → OtherBy o → Others (numbered n o)
-numbered_others n None h = tt
-numbered_others n (Some f) h = h n
+numbered_others n o h = search rules
 
 first_others : {X : Type 0} (why : X → Option (ℕ → Reason)) → ((x : X) → OtherBy (why x)) → (n : ℕ) (xs : List X) → Others (first why n xs)
 first_others why h n [] = tt
@@ -57,85 +56,60 @@ first_others why h n (x ∷ xs) = else_others (numbered n (why x)) (first why (s
 
 -- ---- resolution
 missing_other : (x : Extern) → OtherBy (missing_row x)
-missing_other x = cond_both x.func _ _ OtherBy (λ _ n. other 10 refl) (λ _ n. other 12 refl)
+missing_other x = search rules
 
 unfit_other : (x : Extern) → OtherBy (unfit_row x)
-unfit_other x = cond_both x.func _ _ OtherBy (λ _ n. other 11 refl) (λ _ n. other 13 refl)
+unfit_other x = search rules
 
 row_other : (x : Extern) (o : Option (ℕ × CatalogueRow)) → OtherBy (row_refusal x o)
-row_other x None = missing_other x
-row_other x (Some k) = cond_both k.1.fits None (unfit_row x) OtherBy (λ _. tt) (λ _. unfit_other x)
+row_other x o = search rules
 
 catalogue_other : (c : Option Catalogue) (x : Extern) → OtherBy (catalogue_refusal c x)
-catalogue_other None x = λ n. other 9 refl
-catalogue_other (Some c) x = row_other x (candidate c x)
+catalogue_other c x = search rules
 
 address_other : (x : Extern) (i a : ℕ) (o : Option ℕ) → OtherBy (address_refusal x i a o)
-address_other x i a None = λ n. other 15 refl
-address_other x i a (Some b) = cond_both _ None (Some _) OtherBy (λ _. tt) (λ _ n. other 16 refl)
+address_other x i a o = search rules
 
 wanted_other : (o : Option (ℕ × Extern)) (a : ℕ) (b : Option ℕ) → OtherBy (wanted_refusal o a b)
-wanted_other None a b = tt
-wanted_other (Some k) a b = address_other k.1 k.0 a b
+wanted_other o a b = search rules
 
 line_other : (xs : List Extern) (ls : List Line) (l : Line) → OtherBy (line_refusal xs ls l)
-line_other xs ls (line n o) = wanted_other _ _ o
-line_other xs ls short = tt
+line_other xs ls l = search rules
 
 end_other : (e : End) → Others (end_refusal e)
-end_other Clean = tt
-end_other (Broken f) = other 14 refl
+end_other e = search rules
 
 lines_other : (xs : List Extern) (ls : List Line) (e : End) → Others (lines_refusal xs ls e)
-lines_other xs ls e =
-    cond_both _ _ None Others
-    (λ _. else_others _ _ (first_others (line_refusal xs ls) (line_other xs ls) 0 ls)
-    (else_others _ _ (end_other e) (first_others (missing_refusal ls) (λ x. cond_both _ (Some _) None OtherBy (λ _ n. other 12 refl) (λ _. tt)) 0 xs)))
-    (λ _. tt)
+lines_other xs ls e = search (rules, else_others, first_others, line_other, end_other)
 
 -- ---- fixup
 fix_other : (xs : List Extern) (p : Option ℕ) (t : Tables) → Others (fix_refusal_for xs p t)
-fix_other [] p t = tt
-fix_other (x ∷ xs) p t = cond_both _ None (Some _) Others (λ _. tt) (λ _. other 8 refl)
+fix_other xs p t = search rules
 
 -- ---- relocation
 call_other : (id : Option ℕ) (resolved weak : Bool) (name : Span) (t : Taken) (s : Slot) → OtherErr (call_slot id resolved weak name t s)
-call_other (Some id) resolved weak name t s = tt
-call_other None true weak name t s = other 20 refl
-call_other None false true name t s = tt
-call_other None false false name t s = other 21 refl
+call_other id resolved weak name t s = search rules
 
 with_call_other : (code : List Slot) (t : Taken) (p : Result Slot Reason) → OtherErr p → OtherErr (with_call code t p)
-with_call_other code t (Ok s) h = tt
-with_call_other code t (Err e) h = h
+with_call_other code t p h = search rules
 
 load_other : (code : List Slot) (name : Span) (t : Taken) (o : Option (ℕ × ℤ × ℤ)) → OtherErr (with_load code name t o)
-load_other code name t None = other 21 refl
-load_other code name t (Some v) = cond_both _ (Ok _) (Err _) OtherErr (λ _. tt) (λ _. other 17 refl)
+load_other code name t o = search rules
 
 extern_other : (x : Extern) (name : Span) (t : Taken) (code : List Slot) → OtherErr (patch_extern x name t code)
-extern_other x name t code =
-    let s = slot_at code (slot_index t) in
-    let load = with_load code name t (load_value x.id x.address x.weak) in
-    let off : Result (List Slot) Reason = Err (InvalidRelocationOffset t.row) in
-    cond_both (is_call s) (with_call code t (call_slot x.id x.resolved x.weak name t s)) (cond (is_load s) load off) OtherErr
-    (λ _. with_call_other code t _ (call_other x.id x.resolved x.weak name t s))
-    (λ _. cond_both (is_load s) load off OtherErr (λ _. load_other code name t (load_value x.id x.address x.weak)) (λ _. other 17 refl))
+extern_other x name t code = search rules
 
 found_other : (o : Option (ℕ × Extern)) (name : Span) (t : Taken) (code : List Slot) → OtherErr (patch_found o name t code)
-found_other None name t code = other 19 refl
-found_other (Some k) name t code = extern_other k.1 name t code
+found_other o name t code = search rules
 
 name_other : (xs : List Extern) (names : List ℕ) (o : Option Span) (t : Taken) (code : List Slot) → OtherErr (patch_name xs names o t code)
-name_other xs names None t code = tt
-name_other xs names (Some n) t code = found_other _ n t code
+name_other xs names o t code = search rules
 
 symbol_other : (xs : List Extern) (names : List ℕ) (o : Option (ℕ × Symbol)) (t : Taken) (code : List Slot) → OtherErr (patch_symbol xs names o t code)
-symbol_other xs names None t code = other 18 refl
-symbol_other xs names (Some k) t code = name_other xs names (extern_name k.1) t code
+symbol_other xs names o t code = search rules
 
 patch_other : (xs : List Extern) (ss : Symbols) (t : Taken) (code : List Slot) → OtherErr (patch xs ss t code)
-patch_other xs ss t code = cond_both _ _ (Err _) OtherErr (λ _. symbol_other xs ss.names (symbol_of ss t) t code) (λ _. other 17 refl)
+patch_other xs ss t code = search rules
 
 patched_other : (xs : List Extern) (ss : Symbols) (ts : List Taken) (code : List Slot) → Others (patched xs ss ts code).1
 patched_other xs ss [] code = tt
@@ -145,15 +119,10 @@ patched_other xs ss (t ∷ ts) code =
 
 -- ---- every call
 reason_other : (s : Step) (st : State) → Others (reason s st)
-reason_other (resolve c ls e) st =
-    let xs = st.object.externs in
-    else_others _ _ (first_others (typed_refusal c) (λ x. cond_both _ _ None OtherBy (λ _. catalogue_other c x) (λ _. tt)) 0 xs) (lines_other xs (map said ls) e)
-reason_other fixup st = fix_other st.object.externs st.object.placeholder st.object.tables
-reason_other (relocate p) st = patched_other st.object.externs p.symbols (taken p.functions p.relocations) (slots st.code)
+reason_other s st = search (rules, else_others, first_others, catalogue_other, lines_other, fix_other, patched_other)
 
 others_not : (o : Option Reason) → Others o → o ≡ Some InvalidTable → ⊥
-others_not None h e = true≢false (ap is_some (sym e))
-others_not (Some r) h e = h (ap (λ x. (told x).number) (some_same r InvalidTable e))
+others_not o h e = search rules
 
 pub reason_not : (s : Step) (st : State) → reason s st ≡ Some InvalidTable → ⊥
 reason_not s st = others_not (reason s st) (reason_other s st)

@@ -1,28 +1,31 @@
 -- Which lines a resolution reads, and which line it is refused for.
-use Rattle.std.proofs.Common.{◌≡◌, ℕ, suc, ◌+◌, Bool, true, false, cond, not, ◌||◌, List, [], ◌∷◌, ◌++◌, map, length, is_some, Some, None, Option, sym, refl, ap, ◌∙◌, inl, inr, ⊎_elim, arith}
-use Rattle.std.proofs.lemmas.Bool.{cond-true, cond-false, or_left, or_right, or_from, true≢false}
+use Rattle.std.proofs.Common.{rules, ◌≡◌, ℕ, suc, ◌+◌, Bool, true, false, cond, not, ◌||◌, List, [], ◌∷◌, ◌++◌, map, length, is_some, Some, None, Option, sym, refl, ap, ◌∙◌, inl, inr, ⊎_elim, arith}
+use Rattle.std.specs.Option.{option_or}
+use Rattle.std.specs.List.{list_any}
+use Rattle.std.proofs.lemmas.Bool.{cond-true, cond-false, or_left, or_right, or_from, true≢false, false_from_ne_true}
+use Rattle.std.proofs.Math.Nat.{zero-add}
 use Rattle.model.specs.Externs.{Extern}
 use Rattle.model.specs.Lines.{Line, said}
-use Rattle.model.specs.Lists.{In, any, first, numbered, or_else}
+use Rattle.model.specs.Lists.{In, first, numbered}
 use Rattle.model.specs.ReadLaws.{Reads, LinesAreRead}
 use Rattle.model.specs.Resolve.{typed_refusal, wanted, line_refusal, end_refusal, missing_refusal, after_first}
 use Rattle.model.specs.Tables.{Catalogue}
 use Rattle.model.specs.declared.refusal.Reason.{Reason}
-use Rattle.model.proofs.Lookups.{none_is, not_then_false}
+use Rattle.model.proofs.Lookups.{none_is}
 
 module _ (stops : List ℕ → Bool) where
   after_none : (ls : List (List ℕ)) → ((l : List ℕ) → In l ls → stops l ≡ true → ⊥) → after_first stops ls ≡ []
   after_none [] h = refl
-  after_none (l ∷ ls) h = cond-false (stops l) ls (after_first stops ls) (not_then_false (stops l) (h l (inl refl))) ∙ after_none ls (λ k i. h k (inr i))
+  after_none (l ∷ ls) h = cond-false (stops l) ls (after_first stops ls) (false_from_ne_true (stops l) (h l (inl refl))) ∙ after_none ls (λ k i. h k (inr i))
 
   after_one : (front : List (List ℕ)) (l : List ℕ) (back : List (List ℕ)) → ((k : List ℕ) → In k front → stops k ≡ true → ⊥) → stops l ≡ true → after_first stops (front ++ l ∷ back) ≡ back
   after_one [] l back h t = cond-true (stops l) back (after_first stops back) t
   after_one (k ∷ front) l back h t =
-      cond-false (stops k) (front ++ l ∷ back) (after_first stops (front ++ l ∷ back)) (not_then_false (stops k) (h k (inl refl))) ∙ after_one front l back (λ j i. h j (inr i)) t
+      cond-false (stops k) (front ++ l ∷ back) (after_first stops (front ++ l ∷ back)) (false_from_ne_true (stops k) (h k (inl refl))) ∙ after_one front l back (λ j i. h j (inr i)) t
 
 -- whether a resolution reads no line
-idle : (c : Option Catalogue) (xs : List Extern) → Reads c xs → (is_some (first (typed_refusal c) 0 xs) || not (any wanted xs)) ≡ false
-idle c xs (h, w) = or_from _ _ (ap is_some h) (ap not w)
+idle : (c : Option Catalogue) (xs : List Extern) → Reads c xs → (is_some (first (typed_refusal c) 0 xs) || not (list_any wanted xs)) ≡ false
+idle c xs h = search rules
 
 -- the first refusal is that of the first line that has one
 module _ (why : Line → Option (ℕ → Reason)) where
@@ -32,37 +35,18 @@ module _ (why : Line → Option (ℕ → Reason)) where
       → first why n (map said (front ++ l ∷ back)) ≡ numbered (n + length front) (why (said l))
   first_at n [] l back h t = here n (why (said l)) _ t
     where
-      here : (n : ℕ) (o : Option (ℕ → Reason)) (r : Option Reason) → is_some o ≡ true → or_else (numbered n o) r ≡ numbered (n + 0) o
+      here : (n : ℕ) (o : Option (ℕ → Reason)) (r : Option Reason) → is_some o ≡ true → option_or (numbered n o) r ≡ numbered (n + 0) o
       here n None r t = absurd (true≢false (sym t))
       here n (Some f) r t = let e : n ≡ n + 0 = omega arith in ap (λ k. Some (f k)) e
   first_at n (k ∷ front) l back h t =
-      let none = none_is (why (said k)) (not_then_false (is_some (why (said k))) (h k (inl refl))) in
+      let none = none_is (why (said k)) (false_from_ne_true (is_some (why (said k))) (h k (inl refl))) in
       let e : suc n + length front ≡ n + suc (length front) = omega arith in
-      ap (λ o. or_else (numbered n o) (first why (suc n) (map said (front ++ l ∷ back)))) none
+      ap (λ o. option_or (numbered n o) (first why (suc n) (map said (front ++ l ∷ back)))) none
       ∙ first_at (suc n) front l back (λ j i. h j (inr i)) t
       ∙ ap (λ m. numbered m (why (said l))) e
 
-some_first : (n : ℕ) (o : Option (ℕ → Reason)) (r : Option Reason) → is_some o ≡ true → or_else (numbered n o) r ≡ numbered n o
-some_first n None r t = absurd (true≢false (sym t))
-some_first n (Some f) r t = refl
-
-zero_plus : (n : ℕ) → 0 + n ≡ n
-zero_plus n = omega arith
+some_first : (n : ℕ) (o : Option (ℕ → Reason)) (r : Option Reason) → is_some o ≡ true → option_or (numbered n o) r ≡ numbered n o
+some_first n o r t = search rules
 
 pub lines_are_read : LinesAreRead
-lines_are_read =
-    record {
-      unread = λ c ls xs h. cond-true _ _ _ (⊎_elim (λ t. or_left _ _ t) (λ w. or_right (is_some (first (typed_refusal c) 0 xs)) _ (ap not w)) h);
-      all_read = λ c ls xs r h. cond-false _ _ _ (idle c xs r) ∙ after_none (λ l. is_some (line_refusal xs (map said ls) (said l))) ls h;
-      read_to = λ c xs front l back r h t.
-          cond-false _ _ _ (idle c xs r) ∙ after_one (λ k. is_some (line_refusal xs (map said (front ++ l ∷ back)) (said k))) front l back h t;
-      refused = λ c xs front l back e r h t.
-          let ls = map said (front ++ l ∷ back) in
-          let why = line_refusal xs ls in
-          let rest : Option Reason = or_else (end_refusal e) (first (missing_refusal ls) 0 xs) in
-          ap (λ o. or_else o (cond (any wanted xs) (or_else (first why 0 ls) rest) None)) r.0
-          ∙ cond-true (any wanted xs) (or_else (first why 0 ls) rest) None r.1
-          ∙ ap (λ o. or_else o rest) (first_at why 0 front l back h t)
-          ∙ some_first (0 + length front) (why (said l)) rest t
-          ∙ ap (λ m. numbered m (why (said l))) (zero_plus (length front));
-    }
+lines_are_read = search (rules, or_left, or_right, after_none, after_one, first_at, some_first, zero-add)

@@ -1,5 +1,6 @@
--- The laws of slots and of BTF numbers.
-use Rattle.std.proofs.Common.{◌≡◌, ℕ, zero, suc, ◌+◌, ◌*◌, ◌/◌, ◌%◌, ◌^◌, ◌<◌, List, [], ◌∷◌, ◌++◌, length, get_or, take, drop, sym, refl, ap, ◌∙◌, append-nil, arith, length-drop, take-append-drop, length-take, w16, w32, to_z, of_z}
+-- The laws of slots.
+use Rattle.std.proofs.lemmas.Grind.{common_steps}
+use Rattle.std.proofs.Common.{rules, ◌≡◌, ℕ, zero, suc, ◌+◌, ◌*◌, ◌/◌, ◌%◌, ◌^◌, ◌<◌, List, [], ◌∷◌, ◌++◌, length, get_or, take, drop, sym, refl, ap, ◌∙◌, append-nil, arith, length-drop, take-append-drop, length-take, w16, w32, to_z, of_z}
 use mir.Facts.{Fits-of_z, sfits_to_z}
 use Rattle.std.specs.List.{AllByRecursion}
 use Rattle.std.proofs.lemmas.Nat.{mod_below, shr-shr}
@@ -7,10 +8,9 @@ use Rattle.std.proofs.ByRecursion.{All-take, All-drop}
 use Rattle.std.proofs.lemmas.List.{drop_all, drop_more}
 use Rattle.std.proofs.lemmas.Int.{wrapping_add-bits, to_z-of_z, of_z-to_z}
 use Rattle.std.proofs.lemmas.Bool.{cond-true, cond-false, eq-eqb, ne_eqb, eqb-true}
-use Rattle.model.specs.SlotLaws.{FitsSlot, SlotsAreBytes, RegistersAreApart, Opcodes, BitsAreKept, LoadsHoldTheirValue, CallsHoldTheirId, PoisonWraps, NewRowsMean}
-use Rattle.model.specs.Slots.{slot_of, slot_bytes, first_slots, slots, slots_bytes, src_reg, with_src, signed, unsigned}
-use Rattle.model.specs.Slots.Loaded.{immediate, variable}
-use Rattle.model.specs.Slots.Called.{kernel_function}
+use Rattle.model.specs.SlotLaws.{FitsSlot, SlotsAreBytes, PoisonWraps}
+use Rattle.model.specs.Slots.{slot_of, slot_bytes, first_slots, slots, slots_bytes, with_imm, with_src, low, high, loads}
+use Rattle.model.specs.Slots.Loaded.{immediate}
 use Rattle.model.specs.declared.rows.Slot.{Slot}
 
 -- ---- how many
@@ -30,13 +30,10 @@ halves : (n : ℕ) → n < 2 ^ 16 → n % 256 + n / 256 * 256 ≡ n
 halves n h = omega arith
 
 quarters : (n : ℕ) → n < 2 ^ 32 → n % 256 + n / 256 % 256 * 256 + n / 65536 % 256 * 65536 + n / 16777216 * 16777216 ≡ n
-quarters n h = rw (← shr-shr n 16 8, ← shr-shr n 8 8) (omega arith)
+quarters n h = search rules
 
 slot_read : (s : Slot) → FitsSlot s → slot_of (slot_bytes s) ≡ s
-slot_read s f =
-    let off = ap (to_z w16) (halves (of_z w16 s.off) (Fits-of_z f.off).fits) ∙ to_z-of_z w16 s.off f.off in
-    let imm = ap (to_z w32) (quarters (of_z w32 s.imm) (Fits-of_z f.imm).fits) ∙ to_z-of_z w32 s.imm f.imm in
-    λ i. record { code = s.code; regs = s.regs; off = off i; imm = imm i }
+slot_read s f = search rules
 
 -- slots that are written before other bytes are read back before the slots of those
 pub slots_after : (ss : List Slot) (bs : List ℕ) → AllByRecursion FitsSlot ss → slots (slots_bytes ss ++ bs) ≡ ss ++ slots bs
@@ -51,9 +48,7 @@ slots_read_back ss h = ap slots (sym (append-nil (slots_bytes ss))) ∙ slots_af
 
 -- ---- eight bytes are read and written back
 small : (xs : List ℕ) (k : ℕ) → AllByRecursion (λ b. b < 256) xs → get_or xs k 0 < 256
-small [] k h = omega arith
-small (x ∷ xs) zero h = h.0
-small (x ∷ xs) (suc k) h = small xs k h.1
+small xs k h = grind (arith, common_steps)
 
 -- n elements from k on
 abbrev reads : ℕ → ℕ → List ℕ → List ℕ
@@ -65,17 +60,14 @@ reads_all zero k xs e = drop_all k xs (omega arith)
 reads_all (suc n) k xs e = drop_more xs k 0 (omega arith) ∙ ap (λ l. get_or xs k 0 ∷ l) (reads_all n (k + 1) xs (omega arith))
 
 halved : (a b : ℕ) → a < 256 → b < 256 → let n = of_z w16 (to_z w16 (a + b * 256)) in (n % 256 ≡ a) × (n / 256 ≡ b)
-halved a b p q = rw (of_z-to_z w16 (a + b * 256) (omega arith)) (omega arith, omega arith)
+halved a b p q = search rules
 
 quartered : (a b c d : ℕ) → a < 256 → b < 256 → c < 256 → d < 256
     → let n = of_z w32 (to_z w32 (a + b * 256 + c * 65536 + d * 16777216)) in (n % 256 ≡ a) × (n / 256 % 256 ≡ b) × (n / 65536 % 256 ≡ c) × (n / 16777216 ≡ d)
-quartered a b c d p q r s = rw (of_z-to_z w32 (a + b * 256 + c * 65536 + d * 16777216) (omega arith)) (omega arith, omega arith, omega arith, omega arith)
+quartered a b c d p q r s = search rules
 
 slot_written : (xs : List ℕ) → length xs ≡ 8 → AllByRecursion (λ b. b < 256) xs → slot_bytes (slot_of xs) ≡ xs
-slot_written xs e h =
-    let two = halved (get_or xs 2 0) (get_or xs 3 0) (small xs 2 h) (small xs 3 h) in
-    let four = quartered (get_or xs 4 0) (get_or xs 5 0) (get_or xs 6 0) (get_or xs 7 0) (small xs 4 h) (small xs 5 h) (small xs 6 h) (small xs 7 h) in
-    (λ i. get_or xs 0 0 ∷ get_or xs 1 0 ∷ two.0 i ∷ two.1 i ∷ four.0 i ∷ four.1 i ∷ four.2 i ∷ four.3 i ∷ []) ∙ sym (reads_all 8 0 xs (omega arith))
+slot_written xs e h = grind (arith, common_steps)
 
 written_back : (n : ℕ) (bs : List ℕ) → AllByRecursion (λ b. b < 256) bs → length bs ≡ n * 8 → slots_bytes (first_slots n bs) ≡ bs
 written_back zero bs h e = sym (drop_all 0 bs (omega arith))
@@ -85,14 +77,7 @@ written_back (suc n) bs h e =
     (λ i. slot_written (take 8 bs) front (All-take _ 8 bs h) i ++ written_back n (drop 8 bs) (All-drop _ 8 bs h) rest i) ∙ take-append-drop 8 bs
 
 slot_fits : (xs : List ℕ) → AllByRecursion (λ b. b < 256) xs → FitsSlot (slot_of xs)
-slot_fits xs h =
-    let s : (k : ℕ) → get_or xs k 0 < 256 = λ k. small xs k h in
-    record {
-      code = s 0;
-      regs = s 1;
-      off = sfits_to_z (record { fits = omega (arith, s 2, s 3) });
-      imm = sfits_to_z (record { fits = omega (arith, s 4, s 5, s 6, s 7) });
-    }
+slot_fits xs h = grind (arith, common_steps)
 
 fit : (n : ℕ) (bs : List ℕ) → AllByRecursion (λ b. b < 256) bs → AllByRecursion FitsSlot (first_slots n bs)
 fit zero bs h = tt
@@ -114,61 +99,9 @@ slots_are_bytes =
       bytes = bytes;
     }
 
--- ---- registers, opcodes and immediate values
-pub registers_are_apart : RegistersAreApart
-registers_are_apart =
-    record {
-      source = λ s r. omega arith;
-      source_keeps = λ s r. omega arith;
-      destination = λ s r h. omega arith;
-      destination_keeps = λ s r h. omega arith;
-    }
-
-pub opcodes : Opcodes
-opcodes = (refl, refl)
-
-pub bits_are_kept : BitsAreKept
-bits_are_kept n = let small = mod_below n (2 ^ 32) (omega arith) in (sfits_to_z (record { fits = small }), of_z-to_z w32 (n % 2 ^ 32) small)
-
-pub loads_hold_their_value : LoadsHoldTheirValue
-loads_hold_their_value =
-    record {
-      address = λ a s next h.
-          let value : unsigned (signed (a / 2 ^ 32)) * 2 ^ 32 + unsigned (signed a) ≡ a = omega (arith, (bits_are_kept a).1, (bits_are_kept (a / 2 ^ 32)).1) in
-          cond-true _ _ _ (eq-eqb _ _ (registers_are_apart.source s 0)) ∙ ap immediate value;
-      id = λ id s next h.
-          let reg = src_reg (with_src 3 s) in
-          let is : reg ≡ 3 = registers_are_apart.source s 3 in
-          let value : unsigned (signed id) ≡ id = omega (arith, (bits_are_kept id).1) in
-          cond-false _ _ _ (ne_eqb reg 0 (omega arith)) ∙ cond-true _ _ _ (eq-eqb reg 3 is) ∙ ap variable value;
-    }
-
-pub calls_hold_their_id : CallsHoldTheirId
-calls_hold_their_id id s h =
-    let reg = src_reg (with_src 2 s) in
-    let is : reg ≡ 2 = registers_are_apart.source s 2 in
-    let value : unsigned (signed id) ≡ id = omega (arith, (bits_are_kept id).1) in (
-      cond-false _ _ _ (ne_eqb reg 0 (omega arith)) ∙ cond-false _ _ _ (ne_eqb reg 1 (omega arith)) ∙ cond-true _ _ _ (eq-eqb reg 2 is) ∙ ap kernel_function value,
-      registers_are_apart.source_keeps s 2,
-    )
+-- ---- what slots mean
+pub loads_address : (a : ℕ) (s next : Slot) → a < 2 ^ 64 → loads (with_imm (low a) (with_src 0 s)) (with_imm (high a) next) ≡ immediate a
+loads_address a s next h = search rules
 
 pub poison_wraps : PoisonWraps
 poison_wraps symbol h = wrapping_add-bits w32 2002000000 symbol (omega arith) h
-
--- ---- the numbers of rows
-pub new_rows_mean : NewRowsMean
-new_rows_mean =
-    record {
-      int_kind = λ name. refl;
-      int_parts = λ name. refl;
-      int_flag = λ name. refl;
-      signed_int = λ name. refl;
-      from_first_bit = λ name. refl;
-      four_bytes = λ name. refl;
-      var_kind = λ int name. refl;
-      var_parts = λ int name. refl;
-      var_flag = λ int name. refl;
-      linkage = λ l info h. omega arith;
-      linkage_kind = λ l info h. omega arith;
-      linkage_flag = λ l info h. omega arith;
-    }

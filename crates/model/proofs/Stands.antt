@@ -1,7 +1,11 @@
 -- An address that a resolution gave stands, also in the slots that load it.
-use Rattle.std.proofs.Common.{◌≡◌, ℕ, suc, ◌+◌, ◌/◌, ◌^◌, ◌<◌, true, false, not, ◌||◌, eqb, ltb, leb, List, [], ◌∷◌, map, length, is_some, Some, None, Option, sym, refl, ap, ◌∙◌, subst, inl, inr, ⊎_elim}
+use Rattle.std.proofs.lemmas.Grind.{common_steps}
+use Rattle.std.proofs.Common.{arith, rules, ◌≡◌, ℕ, suc, ◌+◌, ◌/◌, ◌^◌, ◌<◌, true, false, not, ◌||◌, eqb, ltb, leb, List, [], ◌∷◌, map, length, is_some, Some, None, Option, sym, refl, ap, ◌∙◌, subst, inl, inr, ⊎_elim}
+use Rattle.std.specs.List.{list_all}
 use Rattle.std.specs.Str.{bytes_eq}
 use Rattle.std.proofs.lemmas.Bool.{cond-true, cond-false, cond_both, cases_Bool, and_parts, and_from, or_parts, ltb-true}
+use Rattle.std.proofs.lemmas.Option.{none-some, same_Some}
+use Rattle.std.proofs.lemmas.Slice.Eq.{bytes_eq-Decides}
 use Rattle.kallsyms.specs.Address.{address, number, unsigned, limited}
 use Rattle.kallsyms.specs.Fields.{fields, field}
 use Rattle.kallsyms.specs.declared.ends.End.{End}
@@ -10,12 +14,13 @@ use Rattle.model.specs.Externs.{Extern, extern_named, resolved_to, addressed}
 use Rattle.model.specs.Laws.{Lists, address_in, address_of, Holds, LoadsHold, Stands}
 use Rattle.model.specs.Lines.{Line, said, first_address}
 use Rattle.model.specs.Lines.Line.{line, short}
-use Rattle.model.specs.Lists.{In, all, ascends, lookup}
-use Rattle.model.specs.Relocate.{Program, code_fits, relocations_fit, functions_fit, functions_follow, program_fits, slot_at, slot_index}
+use Rattle.model.specs.Lists.{In, ascends, lookup}
+use Rattle.model.specs.Relocate.{Program, slots_of, code_fits, relocations_fit, functions_fit, program_fits, slot_at, slot_index}
 use Rattle.model.specs.Resolve.{fitting_id, wanted, given_id, settled, given}
 use Rattle.model.specs.Runs.{State, Step, granted, next, runs}
 use Rattle.model.specs.Runs.Step.{resolve, fixup, relocate}
 use Rattle.model.specs.Slots.{slots, loads, low, with_imm, with_src}
+use Rattle.model.specs.Spans.{follow}
 use Rattle.model.specs.Tables.{Catalogue, MAX_FUNCTIONS, symbols_fit}
 use Rattle.model.specs.declared.rows.Function.{Function}
 use Rattle.model.specs.declared.rows.Slot.{Slot}
@@ -25,24 +30,18 @@ use Rattle.model.proofs.Grants.{judged}
 use Rattle.model.proofs.History.{Kept, kept_name, kept_typed, change, next_change, change_kept, after, runs_after, after_kept}
 use Rattle.model.proofs.Listed.{line_address, short_not, found_in}
 use Rattle.model.proofs.Loads.{Paired, loads_hold}
-use Rattle.model.proofs.Lookups.{some_not, some_same, some_is, none_is, mapped, lookup_in, lookup_map, in_map, map_in, same_is, is_same}
-use Rattle.model.proofs.Slotted.{loads_hold_their_value, slots_length}
+use Rattle.model.proofs.Lookups.{some_is, none_is, mapped, lookup_in, lookup_map, in_map, map_in}
+use Rattle.model.proofs.Slotted.{loads_address, slots_length}
 
 -- ---- an address that a line says is below 2 ^ 64
 limited_below : (o : Option ℕ) (a : ℕ) → limited o ≡ Some a → a < 2 ^ 64
-limited_below None a e = absurd (some_not a (sym e))
-limited_below (Some n) a e =
-    cond_both (ltb n (2 ^ 64)) (Some n) None (λ o. o ≡ Some a → a < 2 ^ 64)
-    (λ t q. subst (λ z. z < 2 ^ 64) (some_same n a q) (ltb-true n _ t)) (λ _ q. absurd (some_not a (sym q))) e
+limited_below o a e = search rules
 
 said_below : (l n : List ℕ) (a : ℕ) → said l ≡ line n (Some a) → a < 2 ^ 64
-said_below l n a =
-    cond_both (ltb (length (fields 0 l)) 3) short (line (field 2 l).bytes (address (field 0 l).bytes)) (λ x. x ≡ line n (Some a) → a < 2 ^ 64)
-    (λ _ e. absurd (short_not n (Some a) e))
-    (λ _ e. limited_below (number (unsigned (field 0 l).bytes)) a (line_address (field 2 l).bytes n (address (field 0 l).bytes) (Some a) e))
+said_below l n a = search rules
 
 pub lists_below : (ls : List (List ℕ)) (n : List ℕ) (a : ℕ) → Lists ls n a → a < 2 ^ 64
-lists_below ls n a h = let k = map_in said ls (line n (Some a)) h.0 in said_below k.0 n a k.2
+lists_below ls n a h = search (rules, map_in, said_below)
 
 -- ---- what a resolution gives an extern
 module _ (c : Option Catalogue) (ls : List Line) (p : Extern) (a : ℕ) (nonzero : a ≡ 0 → ⊥) (other : p.address ≡ Some a → ⊥) where
@@ -54,20 +53,13 @@ module _ (c : Option Catalogue) (ls : List Line) (p : Extern) (a : ℕ) (nonzero
     pub mark : x.resolved ≡ true
 
   id_took : (o : Option ℕ) → (given_id o p).address ≡ Some a → Took (given_id o p)
-  id_took None e = absurd (other e)
-  id_took (Some i) e = absurd (other e)
+  id_took o e = search rules
 
   found_took : (settled c ls p).address ≡ Some a → Took (settled c ls p)
-  found_took =
-      cond_both (is_some p.typed) _ _ (λ (x : Extern). x.address ≡ Some a → Took x) (λ _. id_took (fitting_id c p))
-      (λ t. cond_both (p.resolved || eqb (first_address p.name ls) 0) p (resolved_to p.id (Some (first_address p.name ls)) p) (λ (x : Extern). x.address ≡ Some a → Took x)
-      (λ _ e. absurd (other e))
-      (λ o e. record { typeless = none_is _ t; wants = and_from _ _ (ap not t) (ap not (or_parts _ _ o).0); is = some_same _ _ e; mark = refl }))
+  found_took = search rules
 
   given_took : (given c ls p).address ≡ Some a → Took (given c ls p)
-  given_took =
-      cond_both ((settled c ls p).resolved || not (settled c ls p).weak) (settled c ls p) (addressed 0 (settled c ls p)) (λ (x : Extern). x.address ≡ Some a → Took x)
-      (λ _. found_took) (λ _ e. absurd (nonzero (sym (some_same 0 a e))))
+  given_took = search rules
 
 change_took :
     (c : Option Catalogue) (ls : List (List ℕ)) (e : End) (st : State) (p : Extern) (a : ℕ) (nonzero : a ≡ 0 → ⊥) (other : p.address ≡ Some a → ⊥)
@@ -80,29 +72,23 @@ change_took c ls e st p a nonzero other =
 
 -- ---- the extern of a name after calls
 named_map : (n : List ℕ) (f : Extern → Extern) → ((r : Extern) → Kept r (f r)) → (xs : List Extern) → extern_named n (map f xs) ≡ mapped f (extern_named n xs)
-named_map n f k xs = lookup_map (λ r. bytes_eq r.name n) f (λ r. ap (λ m. bytes_eq m n) (kept_name (k r))) 0 xs
+named_map n f k xs = search (rules, lookup_map, kept_name)
 
 named_after : (n : List ℕ) (ss : List Step) (st : State) → extern_named n (runs ss st).object.externs ≡ mapped (after ss st) (extern_named n st.object.externs)
-named_after n ss st = ap (extern_named n) (runs_after ss st) ∙ named_map n (after ss st) (after_kept ss st) st.object.externs
+named_after n ss st = search (rules, runs_after, named_map, after_kept)
 
 named_next : (n : List ℕ) (s : Step) (st : State) → extern_named n (next s st).object.externs ≡ mapped (change s st) (extern_named n st.object.externs)
-named_next n s st = ap (extern_named n) (next_change s st) ∙ named_map n (change s st) (change_kept s st) st.object.externs
+named_next n s st = search (rules, next_change, named_map, change, change_kept)
 
 -- ---- a pair that holds an address loads it
 held : (new old : List Slot) (i a : ℕ) → a < 2 ^ 64 → Paired new old i a → Holds new i a
-held new old i a l p =
-    record {
-      low_half = ap (λ s. s.imm) p.first;
-      high_half = ap (λ s. s.imm) p.second;
-      loaded = ap (λ s. loads s (slot_at new (i + 1))) p.first ∙ ap (λ s. loads (with_imm (low a) (with_src 0 (slot_at old i))) s) p.second ∙ loads_hold_their_value.address a (slot_at old i) (slot_at old (i + 1)) l;
-    }
+held new old i a l p = search rules
 
-follow_from : (fs : List Function) (n : ℕ) → functions_fit fs n ≡ true → functions_follow 0 n fs ≡ true
-follow_from fs n h = (and_parts (ascends _ fs) (functions_follow 0 n fs) (and_parts (all _ fs) _ (and_parts (leb (length fs) MAX_FUNCTIONS) _ h).1).1).1
+follow_from : (fs : List Function) (n : ℕ) → functions_fit fs n ≡ true → follow 0 (slots_of fs) n ≡ true
+follow_from fs n h = search rules
 
-program_follow : (p : Program) (bs : List ℕ) → program_fits p bs ≡ true → functions_follow 0 (length bs / 8) p.functions ≡ true
-program_follow p bs h =
-    follow_from p.functions (length bs / 8) (and_parts (relocations_fit p.relocations) _ (and_parts (symbols_fit p.symbols) _ (and_parts (code_fits bs) _ h).1).1).1
+program_follow : (p : Program) (bs : List ℕ) → program_fits p bs ≡ true → follow 0 (slots_of p.functions) (length bs / 8) ≡ true
+program_follow p bs h = grind (arith, common_steps)
 
 relocation_holds :
     (st : State) (p : Program) (n : List ℕ) (a : ℕ) (k : ℕ × Extern)
@@ -115,8 +101,8 @@ relocation_holds :
     → LoadsHold n a p (slots st.code) (slots (next (relocate p) st).code)
 relocation_holds st p n a k b l row id at g front t back split alone =
     let q = granted_parts (relocate p) st g in
-    let follow = program_follow p st.code (and_parts (object_fits st.object) (program_fits p st.code) q.0).1 in
-    let h = loads_hold st.object.externs p (slots st.code) n a k row id at (subst (λ m. functions_follow 0 m p.functions ≡ true) (sym (slots_length st.code)) follow) q.1 front t back split alone in
+    let spans = program_follow p st.code (and_parts (object_fits st.object) (program_fits p st.code) q.0).1 in
+    let h = loads_hold st.object.externs p (slots st.code) n a k row id at (subst (λ m. follow 0 (slots_of p.functions) m ≡ true) (sym (slots_length st.code)) spans) q.1 front t back split alone in
     subst (λ x. Holds x (slot_index t) a) (sym (relocated_slots p st b q.0)) (held _ h.0 (slot_index t) a l h.1)
 
 -- ---- the law, of externs that have no id yet
@@ -147,7 +133,7 @@ module _
     pub resolution_stands : Stands s n a (runs later there)
     resolution_stands =
         ⊎_elim
-        (λ k. absurd (some_not a (sym gives ∙ ap address_in (named_next n s here ∙ ap (mapped (change s here)) (named_after n before st ∙ ap (mapped (after before st)) k)))))
+        (λ k. absurd (none-some a (sym (sym gives ∙ ap address_in (named_next n s here ∙ ap (mapped (change s here)) (named_after n before st ∙ ap (mapped (after before st)) k))))))
         (λ k.
         let r = k.0.1 in
         let p = after before st r in
@@ -161,7 +147,7 @@ module _
         let kq = change_kept s here p in
         let ky = after_kept later there q in
         let g = change_took c ls e here p a nonzero (λ z. other (ap address_in at_here ∙ z)) (sym (ap address_in at_there) ∙ gives) in
-        let name : p.name ≡ n = kept_name kp ∙ same_is r.name n i.1 in
+        let name : p.name ≡ n = kept_name kp ∙ (bytes_eq-Decides r.name n).0 i.1 in
         let typeless = g.1.typeless in
         let stands = (ky.stands (kept_typed kq ∙ typeless) g.1.mark).1 ∙ sym (ap address_in at_there) ∙ gives in
         let lines = (clear c ls e here g.0).lines in
@@ -183,11 +169,7 @@ module _
 
 -- a call that is no resolution gives no address
 same_address : (n : List ℕ) (s : Step) (st : State) → ((x : Extern) → change s st x ≡ x) → address_of n (next s st) ≡ address_of n st
-same_address n s st h = ap address_in (named_next n s st) ∙ by (extern_named n st.object.externs)
-  where
-    by : (o : Option (ℕ × Extern)) → address_in (mapped (change s st) o) ≡ address_in o
-    by None = refl
-    by (Some k) = ap (λ x. x.address) (h k.1)
+same_address n s st h = search (rules, named_next, change)
 
 pub call_stands :
     (st : State) (before : List Step) (s : Step) (later : List Step) (n : List ℕ) (a : ℕ)
@@ -205,8 +187,8 @@ call_stands st before (relocate p) later n a b f z o g = absurd (o (sym (same_ad
 -- ---- each extern has a name of its own
 pub named_row : (n : ℕ) (xs : List Extern) (r : Extern) → Distinct xs → In r xs → (i : ℕ) × (lookup (λ x. bytes_eq x.name r.name) n xs ≡ Some (i, r))
 named_row n [] r d i = absurd i
-named_row n (x ∷ xs) r d (inl q) = (n, cond-true _ _ _ (is_same x.name r.name (ap (λ z. z.name) q)) ∙ ap (λ z. Some (n, z)) q)
+named_row n (x ∷ xs) r d (inl q) = (n, cond-true _ _ _ ((bytes_eq-Decides x.name r.name).1 (ap (λ z. z.name) q)) ∙ ap (λ z. Some (n, z)) q)
 named_row n (x ∷ xs) r d (inr i) =
     let k = named_row (suc n) xs r d.1 i in
-    let t : bytes_eq x.name r.name ≡ false = ⊎_elim (λ t. absurd (d.0 r i (sym (same_is x.name r.name t)))) (λ t. t) (cases_Bool (bytes_eq x.name r.name)) in
+    let t : bytes_eq x.name r.name ≡ false = ⊎_elim (λ t. absurd (d.0 r i (sym ((bytes_eq-Decides x.name r.name).0 t)))) (λ t. t) (cases_Bool (bytes_eq x.name r.name)) in
     (k.0, cond-false _ _ _ t ∙ k.1)

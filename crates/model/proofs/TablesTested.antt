@@ -1,23 +1,26 @@
 -- The tests of the tables say exactly that the tables are well-formed.
-use Rattle.std.proofs.Common.{◌≡◌, ℕ, ◌+◌, ◌/◌, ◌%◌, ◌<◌, ◌≤◌, Bool, true, false, cond, ◌&&◌, ◌||◌, eqb, ltb, leb, ◌⊎◌, ◌↔◌, List, [], ◌∷◌, ◌++◌, length, Some, None, Option, sym, refl, ap, ◌∙◌, subst, inl, inr, ⊎_elim, arith}
-use Rattle.std.proofs.lemmas.Bool.{false≢true, cases_Bool, cond-true, cond-false, and_parts, and_from, or_left, or_right, or_from, or_parts, or_cases, ltb-true, lt-ltb, leb-true, le-leb, eqb-true, eq-eqb}
+use Rattle.std.proofs.Common.{rules, ◌≡◌, ℕ, ◌/◌, ◌%◌, ◌<◌, ◌≤◌, Bool, true, false, ◌&&◌, ◌||◌, eqb, ltb, leb, ◌⊎◌, ◌↔◌, List, [], ◌∷◌, ◌++◌, length, Some, None, Option, sym, refl, ap, ◌∙◌, subst, inl, inr, ⊎_elim, arith}
+use Rattle.std.specs.List.{list_all}
+use Rattle.std.proofs.lemmas.Bool.{false≢true, cases_Bool, and_parts, and_from, or_left, or_right, or_from, or_parts, or_cases, ltb-true, lt-ltb, leb-true, le-leb, eqb-true, eq-eqb}
+use Rattle.std.proofs.lemmas.Option.{none-some, same_Some}
 use Rattle.model.specs.Chain.{type_at}
 use Rattle.model.specs.Collected.{Collected, collected_if_any, object_fits}
 use Rattle.model.specs.Externs.{Extern, Object}
 use Rattle.model.specs.Kinds.{kind_number, of_kind, is_func_proto, is_data_sec}
-use Rattle.model.specs.Lists.{all, ascends, earlier}
-use Rattle.model.specs.Names.{inside}
-use Rattle.model.specs.Relocate.{Program, functions_follow, functions_fit, relocations_fit, code_fits, program_fits}
+use Rattle.model.specs.Lists.{ascends, earlier}
+use Rattle.model.specs.Relocate.{Program, slots_of, functions_fit, relocations_fit, code_fits, program_fits}
 use Rattle.model.specs.Slots.{whole_slots}
-use Rattle.model.specs.TableLaws.{parts_of, SpansFollow, WellFormedTables, WellFormedObject, Before, WellFormedSymbols, WellFormedCatalogue, slots_of, WellFormedProgram, TablesAreTested}
-use Rattle.model.specs.Tables.{Tables, Symbols, Catalogue, MAX_ROWS, MAX_FUNCTIONS, MAX_NAMES, MAX_SECTION_OFFSET, MAX_EXTERNS, void_first, spans_follow, parts_fit, tables_fit, inside_if_any, symbols_fit, catalogue_fits}
+use Rattle.model.specs.Spans.{inside, end_of, follow}
+use Rattle.model.specs.TableLaws.{SpansFollow, WellFormedTables, WellFormedObject, Before, WellFormedSymbols, WellFormedCatalogue, WellFormedProgram, TablesAreTested}
+use Rattle.model.specs.Tables.{Tables, Symbols, Catalogue, MAX_ROWS, MAX_FUNCTIONS, MAX_NAMES, MAX_SECTION_OFFSET, MAX_EXTERNS, void_first, parts_of, parts_fit, tables_fit, inside_if_any, symbols_fit, catalogue_fits}
 use Rattle.model.specs.declared.btf.BtfType.{BtfType}
 use Rattle.model.specs.declared.rows.CatalogueRow.{CatalogueRow}
 use Rattle.model.specs.declared.rows.Function.{Function}
 use Rattle.model.specs.declared.rows.Relocation.{Relocation}
 use Rattle.model.specs.declared.rows.Span.{Span}
 use Rattle.model.specs.declared.rows.Symbol.{Symbol}
-use Rattle.model.proofs.Lookups.{all_in, in_all, some_not, some_same}
+use Rattle.model.proofs.Followed.{follow_is}
+use Rattle.model.proofs.Lookups.{all_in, in_all}
 use Rattle.model.proofs.Tested.{collected_test}
 use Rattle.model.proofs.Grown.{Fits, fits_is, is_fit}
 use Rattle.model.proofs.Fixes.{object_parts, object_collected}
@@ -30,8 +33,7 @@ Ascending {X} R xs = (front : List X) (x : X) (middle : List X) (y : X) (back : 
 module _ {X : Type 0} (before : X → X → Bool) (R : X → X → Type 0)
     (is : (x y : X) → before x y ≡ true → R x y) (from : (x y : X) → R x y → before x y ≡ true) (on : (x y z : X) → R x y → R y z → R x z) where
   ascends_rest : (x : X) (xs : List X) → ascends before (x ∷ xs) ≡ true → ascends before xs ≡ true
-  ascends_rest x [] h = refl
-  ascends_rest x (y ∷ ys) h = (and_parts (before x y) _ h).1
+  ascends_rest x xs h = search rules
 
   ascends_first : (x : X) (middle : List X) (y : X) (back : List X) → ascends before (x ∷ (middle ++ y ∷ back)) ≡ true → R x y
   ascends_first x [] y back h = is x y (and_parts (before x y) _ h).0
@@ -48,145 +50,39 @@ module _ {X : Type 0} (before : X → X → Bool) (R : X → X → Type 0)
       and_from (before x y) _ (from x y (h [] x [] y ys refl)) (is_ascending (y ∷ ys) (λ front a middle b back e. h (x ∷ front) a middle b back (ap (λ zs. x ∷ zs) e)))
 
   ascends_is : (xs : List X) → (ascends before xs ≡ true) ↔ Ascending R xs
-  ascends_is xs = ((λ h front x middle y back e. ascends_split front x middle y back (ap (ascends before) (sym e) ∙ h)), is_ascending xs)
+  ascends_is xs = search (rules, ascends_split, is_ascending)
 
 -- pairs of numbers in order
 earlier_is : (p q : ℕ × ℕ) → earlier p q ≡ true → Before p q
-earlier_is p q h =
-    ⊎_elim (λ t. inl (ltb-true p.0 q.0 t)) (λ t. let b = and_parts (eqb p.0 q.0) (ltb p.1 q.1) t in inr (eqb-true p.0 q.0 b.0, ltb-true p.1 q.1 b.1))
-    (or_cases (ltb p.0 q.0) _ h)
+earlier_is p q h = search rules
 
 is_earlier : (p q : ℕ × ℕ) → Before p q → earlier p q ≡ true
-is_earlier p q (inl l) = or_left (ltb p.0 q.0) _ (lt-ltb p.0 q.0 l)
-is_earlier p q (inr b) = or_right (ltb p.0 q.0) _ (and_from (eqb p.0 q.0) _ (eq-eqb p.0 q.0 b.0) (lt-ltb p.1 q.1 b.1))
+is_earlier p q h = search rules
 
 before_on : (p q r : ℕ × ℕ) → Before p q → Before q r → Before p r
-before_on p q r (inl a) (inl b) = inl (omega arith)
-before_on p q r (inl a) (inr b) = inl (let e = b.0 in omega arith)
-before_on p q r (inr a) (inl b) = inl (let e = a.0 in omega arith)
-before_on p q r (inr a) (inr b) = inr (a.0 ∙ b.0, let c = a.1 in let d = b.1 in omega arith)
+before_on p q r h h2 = search rules
 
 keys_ascend : {X : Type 0} (key : X → ℕ × ℕ) (xs : List X) → (ascends (λ x y. earlier (key x) (key y)) xs ≡ true) ↔ Ascending (λ x y. Before (key x) (key y)) xs
-keys_ascend key xs =
-    ascends_is (λ x y. earlier (key x) (key y)) (λ x y. Before (key x) (key y)) (λ x y. earlier_is (key x) (key y)) (λ x y. is_earlier (key x) (key y))
-    (λ x y z. before_on (key x) (key y) (key z)) xs
-
--- ---- spans that follow each other
--- a test of the spans of some rows, and how many parts those have together, by what they are of a list and of one with a row more
-module _ {X : Type 0} (counts : X → Bool) (start len : X → ℕ) (n : ℕ) (follow : ℕ → List X → Bool) (total : List X → ℕ)
-    (follow_none : (at : ℕ) → follow at [] ≡ leb at n)
-    (follow_more : (at : ℕ) (x : X) (xs : List X) → follow at (x ∷ xs) ≡ cond (counts x) (eqb (start x) at && follow (at + len x) xs) (follow at xs))
-    (total_none : total [] ≡ 0)
-    (total_more : (x : X) (xs : List X) → total (x ∷ xs) ≡ cond (counts x) (len x + total xs) (total xs)) where
-  counted : (at : ℕ) (x : X) (xs : List X) → counts x ≡ true → follow at (x ∷ xs) ≡ true → (start x ≡ at) × (follow (at + len x) xs ≡ true)
-  counted at x xs c h = let p = and_parts (eqb (start x) at) _ (sym (cond-true _ _ _ c) ∙ sym (follow_more at x xs) ∙ h) in (eqb-true (start x) at p.0, p.1)
-
-  passed : (at : ℕ) (x : X) (xs : List X) → counts x ≡ false → follow at (x ∷ xs) ≡ true → follow at xs ≡ true
-  passed at x xs c h = sym (cond-false _ _ _ c) ∙ sym (follow_more at x xs) ∙ h
-
-  total_counted : (x : X) (xs : List X) → counts x ≡ true → total (x ∷ xs) ≡ len x + total xs
-  total_counted x xs c = total_more x xs ∙ cond-true _ _ _ c
-
-  total_passed : (x : X) (xs : List X) → counts x ≡ false → total (x ∷ xs) ≡ total xs
-  total_passed x xs c = total_more x xs ∙ cond-false _ _ _ c
-
-  follow_split : (at : ℕ) (front : List X) (x : X) (back : List X) → counts x ≡ true → follow at (front ++ x ∷ back) ≡ true → start x ≡ at + total front
-  follow_split at [] x back c h = let s = (counted at x back c h).0 in let z = total_none in omega arith
-  follow_split at (f ∷ fs) x back c h =
-      ⊎_elim
-      (λ (t : counts f ≡ true).
-      let r = follow_split (at + len f) fs x back c (counted at f (fs ++ x ∷ back) t h).1 in let s = total_counted f fs t in omega arith)
-      (λ (t : counts f ≡ false). let r = follow_split at fs x back c (passed at f (fs ++ x ∷ back) t h) in let s = total_passed f fs t in omega arith) (cases_Bool (counts f))
-
-  follow_ends : (at : ℕ) (xs : List X) → follow at xs ≡ true → at + total xs ≤ n
-  follow_ends at [] h = let l = leb-true at n (sym (follow_none at) ∙ h) in let z = total_none in omega arith
-  follow_ends at (x ∷ xs) h =
-      ⊎_elim
-      (λ (t : counts x ≡ true). let r = follow_ends (at + len x) xs (counted at x xs t h).1 in let s = total_counted x xs t in omega arith)
-      (λ (t : counts x ≡ false). let r = follow_ends at xs (passed at x xs t h) in let s = total_passed x xs t in omega arith) (cases_Bool (counts x))
-
-  is_followed : (at : ℕ) (xs : List X) → ((front : List X) (x : X) (back : List X) → xs ≡ front ++ x ∷ back → counts x ≡ true → start x ≡ at + total front)
-      → at + total xs ≤ n → follow at xs ≡ true
-  is_followed at [] h l = follow_none at ∙ le-leb at n (let z = total_none in omega arith)
-  is_followed at (x ∷ xs) h l =
-      ⊎_elim
-      (λ (t : counts x ≡ true).
-      let s = total_counted x xs t in
-      let z = total_none in
-      let b = h [] x xs refl t in
-      follow_more at x xs ∙ cond-true _ _ _ t
-      ∙ and_from (eqb (start x) at) _ (eq-eqb (start x) at (omega arith))
-      (is_followed (at + len x) xs
-      (λ front y back e c. let r = h (x ∷ front) y back (ap (λ zs. x ∷ zs) e) c in let m = total_counted x front t in omega arith) (omega arith)))
-      (λ (t : counts x ≡ false).
-      let s = total_passed x xs t in
-      follow_more at x xs ∙ cond-false _ _ _ t
-      ∙ is_followed at xs
-      (λ front y back e c. let r = h (x ∷ front) y back (ap (λ zs. x ∷ zs) e) c in let m = total_passed x front t in omega arith) (omega arith))
-      (cases_Bool (counts x))
-
-  -- the test says that each span starts where those before it end, and the last one ends inside
-  follow_is : (xs : List X) → (follow 0 xs ≡ true) ↔ (((front : List X) (x : X) (back : List X) → xs ≡ front ++ x ∷ back → counts x ≡ true → start x ≡ total front) × (total xs ≤ n))
-  follow_is xs = (
-    (λ h.
-        let l = follow_ends 0 xs h in ((λ front x back e c. let s = follow_split 0 front x back c (ap (follow 0) (sym e) ∙ h) in omega arith), omega arith)),
-    λ h. let l = h.1 in is_followed 0 xs (λ front x back e c. let s = h.0 front x back e c in omega arith) (omega arith),
-  )
+keys_ascend key xs = search (rules, ascends_is, earlier_is, is_earlier, before_on)
 
 -- ---- a BTF
-spans_are : (k n : ℕ) (ts : List BtfType) → (spans_follow k 0 ts n ≡ true) ↔ SpansFollow k ts n
-spans_are k n ts =
-    let both = follow_is (of_kind k) (λ (t : BtfType). t.start) (λ (t : BtfType). t.len) n (λ at us. spans_follow k at us n) (parts_of k)
-    (λ at. refl) (λ at t us. refl) refl (λ t us. refl) ts in (
-      (λ h. let p = both.0 h in record { starts = p.0; ends = p.1 }),
-      λ s. both.1 (s.starts, s.ends),
-    )
-
 void_is : (ts : List BtfType) → void_first ts ≡ true → (0 < length ts) × (kind_number (type_at ts 0).kind ≡ 0)
-void_is [] h = absurd (false≢true h)
-void_is (t ∷ ts) h = (omega arith, eqb-true _ _ h)
+void_is ts h = search rules
 
 is_void : (ts : List BtfType) → 0 < length ts → kind_number (type_at ts 0).kind ≡ 0 → void_first ts ≡ true
-is_void [] l e = absurd (omega arith)
-is_void (t ∷ ts) l e = eq-eqb _ _ e
+is_void ts l e = search rules
 
-part_is : (r : BtfType) → parts_fit r ≡ true → of_kind 15 r ≡ false → of_kind 13 r ≡ false → r.len ≡ 0
-part_is r h s p =
-    ⊎_elim (λ t. absurd (false≢true (sym (or_from (is_data_sec r) (is_func_proto r) s p) ∙ t))) (λ t. eqb-true _ _ t) (or_cases (is_data_sec r || is_func_proto r) (eqb r.len 0) h)
+part_is : (r : BtfType) → parts_fit r ≡ true → of_kind 15 r ≡ false → of_kind 13 r ≡ false → r.parts.len ≡ 0
+part_is r h s p = search rules
 
-is_part : (r : BtfType) → (of_kind 15 r ≡ false → of_kind 13 r ≡ false → r.len ≡ 0) → parts_fit r ≡ true
-is_part r h =
-    ⊎_elim (λ t. or_left (is_data_sec r || is_func_proto r) _ t)
-    (λ t. let p = or_parts (is_data_sec r) (is_func_proto r) t in or_right (is_data_sec r || is_func_proto r) _ (eq-eqb _ _ (h p.0 p.1)))
-    (cases_Bool (is_data_sec r || is_func_proto r))
+is_part : (r : BtfType) → (of_kind 15 r ≡ false → of_kind 13 r ≡ false → r.parts.len ≡ 0) → parts_fit r ≡ true
+is_part r h = search rules
 
 fits_formed : (t : Tables) → Fits t → WellFormedTables t
-fits_formed t f =
-    let v = void_is t.types f.void in
-    record {
-      types = f.types;
-      entries = f.entries;
-      params = f.params;
-      strings = f.strings;
-      some = v.0;
-      void = v.1;
-      sections = (spans_are 15 (length t.entries) t.types).0 f.sections;
-      protos = (spans_are 13 (length t.params) t.types).0 f.protos;
-      others = λ r i. part_is r (all_in parts_fit t.types f.parts r i);
-    }
+fits_formed t f = search (rules, void_is, follow_is, part_is, all_in)
 
 formed_fits : (t : Tables) → WellFormedTables t → Fits t
-formed_fits t w =
-    record {
-      types = w.types;
-      entries = w.entries;
-      params = w.params;
-      strings = w.strings;
-      void = is_void t.types w.some w.void;
-      parts = in_all parts_fit t.types (λ r i. is_part r (w.others r i));
-      sections = (spans_are 15 (length t.entries) t.types).1 w.sections;
-      protos = (spans_are 13 (length t.params) t.types).1 w.protos;
-    }
+formed_fits t w = search (rules, is_void, in_all, is_part, follow_is)
 
 -- ---- an object
 collected_or_none : (o : Object) (xs : List Extern) → o.externs ≡ xs → object_fits o ≡ true → (o.externs ≡ []) ⊎ Collected o
@@ -194,14 +90,10 @@ collected_or_none o [] e h = inl e
 collected_or_none o (x ∷ xs) e h = inr (object_collected o x xs e h)
 
 object_formed : (o : Object) → object_fits o ≡ true → WellFormedObject o
-object_formed o h =
-    let p = object_parts o h in
-    record { tables = fits_formed o.tables p.0; few = leb-true _ _ p.1; collected = collected_or_none o o.externs refl h }
+object_formed o h = search (rules, object_parts, fits_formed, leb-true, collected_or_none)
 
 formed_object : (o : Object) → WellFormedObject o → object_fits o ≡ true
-formed_object o w =
-    and_from (tables_fit o.tables) _ (is_fit o.tables (formed_fits o.tables w.tables))
-    (and_from (leb (length o.externs) MAX_EXTERNS) _ (le-leb _ _ w.few) (⊎_elim (λ e. ap (collected_if_any o) e) (collected_test o) w.collected))
+formed_object o w = search (rules, is_fit, formed_fits, le-leb, collected_test)
 
 -- ---- symbols and catalogues
 indices_ascend : (ss : List Symbol) → (ascends (λ s t. ltb s.index t.index) ss ≡ true) ↔ Ascending (λ s t. s.index < t.index) ss
@@ -209,29 +101,18 @@ indices_ascend ss =
     ascends_is (λ (s : Symbol) (t : Symbol). ltb s.index t.index) (λ (s : Symbol) (t : Symbol). s.index < t.index) (λ s t. ltb-true s.index t.index) (λ s t. lt-ltb s.index t.index)
     (λ s t u a b. omega arith) ss
 
-inside_is : (names : List ℕ) (o : Option Span) → inside_if_any names o ≡ true → (n : Span) → o ≡ Some n → n.start + n.len ≤ length names
-inside_is names None h n e = absurd (some_not n (sym e))
-inside_is names (Some m) h n e = subst (λ (z : Span). z.start + z.len ≤ length names) (some_same m n e) (leb-true _ _ h)
+inside_is : (names : List ℕ) (o : Option Span) → inside_if_any names o ≡ true → (n : Span) → o ≡ Some n → end_of n ≤ length names
+inside_is names o h n e = search rules
 
-is_inside : (names : List ℕ) (o : Option Span) → ((n : Span) → o ≡ Some n → n.start + n.len ≤ length names) → inside_if_any names o ≡ true
-is_inside names None h = refl
-is_inside names (Some m) h = le-leb _ _ (h m refl)
+is_inside : (names : List ℕ) (o : Option Span) → ((n : Span) → o ≡ Some n → end_of n ≤ length names) → inside_if_any names o ≡ true
+is_inside names o h = search rules
 
 module _ (ss : Symbols) where
   abbrev name_inside : Symbol → Bool
   name_inside s = inside_if_any ss.names s.name
 
   symbols_formed : symbols_fit ss ≡ true → WellFormedSymbols ss
-  symbols_formed h =
-      let a = and_parts (leb (length ss.rows) MAX_ROWS && leb (length ss.names) MAX_NAMES) _ h in
-      let b = and_parts (leb (length ss.rows) MAX_ROWS) _ a.0 in
-      let c = and_parts (ascends (λ s t. ltb s.index t.index) ss.rows) (all name_inside ss.rows) a.1 in
-      record {
-        rows = leb-true _ _ b.0;
-        names = leb-true _ _ b.1;
-        ascend = (indices_ascend ss.rows).0 c.0;
-        inside = λ s n i. inside_is ss.names s.name (all_in name_inside ss.rows c.1 s i) n;
-      }
+  symbols_formed h = search (rules, leb-true, indices_ascend, inside_is, all_in)
 
   formed_symbols : WellFormedSymbols ss → symbols_fit ss ≡ true
   formed_symbols w =
@@ -245,10 +126,7 @@ module _ (c : Catalogue) where
   row_inside k = inside c.names k.name
 
   catalogue_formed : catalogue_fits (Some c) ≡ true → WellFormedCatalogue c
-  catalogue_formed h =
-      let a = and_parts (leb (length c.rows) MAX_ROWS && leb (length c.names) MAX_NAMES) (all row_inside c.rows) h in
-      let b = and_parts (leb (length c.rows) MAX_ROWS) _ a.0 in
-      record { rows = leb-true _ _ b.0; names = leb-true _ _ b.1; inside = λ k i. leb-true _ _ (all_in row_inside c.rows a.1 k i) }
+  catalogue_formed h = search (rules, leb-true, all_in)
 
   formed_catalogue : WellFormedCatalogue c → catalogue_fits (Some c) ≡ true
   formed_catalogue w =
@@ -256,15 +134,6 @@ module _ (c : Catalogue) where
       (and_from (leb (length c.rows) MAX_ROWS) _ (le-leb _ _ w.rows) (le-leb _ _ w.names)) (in_all row_inside c.rows (λ k i. le-leb _ _ (w.inside k i)))
 
 -- ---- a program
-functions_are : (n : ℕ) (fs : List Function)
-    → (functions_follow 0 n fs ≡ true) ↔ (((front : List Function) (f : Function) (back : List Function) → fs ≡ front ++ f ∷ back → f.start ≡ slots_of front) × (slots_of fs ≤ n))
-functions_are n fs =
-    let both = follow_is (λ (f : Function). true) (λ (f : Function). f.start) (λ (f : Function). f.len) n (λ at gs. functions_follow at n gs) slots_of
-    (λ at. refl) (λ at f gs. refl) refl (λ f gs. refl) fs in (
-      (λ h. let p = both.0 h in ((λ front f back e. p.0 front f back e refl), p.1)),
-      λ h. both.1 ((λ front f back e c. h.0 front f back e), h.1),
-    )
-
 module _ (p : Program) (code : List ℕ) where
   abbrev offset_fits : Function → Bool
   offset_fits f = leb f.section_offset MAX_SECTION_OFFSET
@@ -283,9 +152,8 @@ module _ (p : Program) (code : List ℕ) where
       let d = and_parts (relocations_fit p.relocations) (functions_fit p.functions (length code / 8)) c.1 in
       let r = and_parts (leb (length p.relocations) MAX_ROWS) _ d.0 in
       let f = and_parts (leb (length p.functions) MAX_FUNCTIONS) _ d.1 in
-      let g = and_parts (all offset_fits p.functions) _ f.1 in
-      let k = and_parts (ascends (λ x y. earlier (place x) (place y)) p.functions) (functions_follow 0 (length code / 8) p.functions) g.1 in
-      let s = (functions_are (length code / 8) p.functions).0 k.1 in
+      let g = and_parts (list_all offset_fits p.functions) _ f.1 in
+      let k = and_parts (ascends (λ x y. earlier (place x) (place y)) p.functions) (follow 0 (slots_of p.functions) (length code / 8)) g.1 in
       let m = eqb-true (length code % 8) 0 b.0 in
       record {
         slots = length code / 8;
@@ -297,8 +165,7 @@ module _ (p : Program) (code : List ℕ) where
         few_functions = leb-true _ _ f.0;
         offsets = λ x i. leb-true _ _ (all_in offset_fits p.functions g.0 x i);
         functions = (keys_ascend place p.functions).0 k.0;
-        starts = s.0;
-        ends = s.1;
+        spans = (follow_is (length code / 8) (slots_of p.functions)).0 k.1;
       }
 
   formed_program : WellFormedProgram p code → program_fits p code ≡ true
@@ -312,17 +179,10 @@ module _ (p : Program) (code : List ℕ) where
       (and_from (relocations_fit p.relocations) (functions_fit p.functions (length code / 8))
       (and_from (leb (length p.relocations) MAX_ROWS) _ (le-leb _ _ w.few_relocations) ((keys_ascend spot p.relocations).1 w.relocations))
       (and_from (leb (length p.functions) MAX_FUNCTIONS) _ (le-leb _ _ w.few_functions)
-      (and_from (all offset_fits p.functions) _ (in_all offset_fits p.functions (λ f i. le-leb _ _ (w.offsets f i)))
+      (and_from (list_all offset_fits p.functions) _ (in_all offset_fits p.functions (λ f i. le-leb _ _ (w.offsets f i)))
       (and_from (ascends (λ x y. earlier (place x) (place y)) p.functions) _ ((keys_ascend place p.functions).1 w.functions)
-      ((functions_are (length code / 8) p.functions).1 (w.starts, subst (λ n. slots_of p.functions ≤ n) same w.ends)))))))
+      ((follow_is (length code / 8) (slots_of p.functions)).1 (subst (λ n. SpansFollow (slots_of p.functions) n) same w.spans)))))))
 
 -- ---- the whole
 pub tables_are_tested : TablesAreTested
-tables_are_tested =
-    record {
-      tables = λ t. ((λ h. fits_formed t (fits_is t h)), λ w. is_fit t (formed_fits t w));
-      object = λ o. (object_formed o, formed_object o);
-      symbols = λ ss. (symbols_formed ss, formed_symbols ss);
-      catalogue = λ c. (catalogue_formed c, formed_catalogue c);
-      program = λ p code. (program_formed p code, formed_program p code);
-    }
+tables_are_tested = search (rules, fits_formed, fits_is, is_fit, formed_fits, object_formed, formed_object, symbols_formed, formed_symbols, catalogue_formed, formed_catalogue, program_formed, formed_program)

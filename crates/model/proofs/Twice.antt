@@ -1,8 +1,10 @@
 -- Fixup twice is fixup once.
-use Rattle.std.proofs.Common.{◌≡◌, ℕ, suc, ◌+◌, ◌*◌, ◌<◌, ◌≤◌, true, false, cond, ◌||◌, eqb, List, [], ◌∷◌, ◌++◌, length, set, is_some, Some, None, Option, sym, refl, ap, ◌∙◌, subst, ⊎_elim, arith}
+use Rattle.std.proofs.lemmas.Grind.{common_steps}
+use Rattle.std.proofs.Common.{rules, ◌≡◌, ℕ, suc, ◌+◌, ◌*◌, ◌<◌, ◌≤◌, true, false, cond, ◌||◌, eqb, List, [], ◌∷◌, ◌++◌, length, set, is_some, Some, None, Option, sym, refl, ap, ◌∙◌, subst, ⊎_elim, arith}
 use Rattle.std.specs.List.{range_with_len}
 use Rattle.std.proofs.lemmas.List.{length-set, set-get_or, get_or-set_same, get_or-set_other}
 use Rattle.std.proofs.lemmas.Bool.{true≢false, cases_Bool, cases_eq, cond-true, cond-false, and_left, or_cases, eqb-true, ne_eqb}
+use Rattle.std.proofs.lemmas.Option.{none-some, same_Some}
 use Rattle.model.specs.Added.{int_row, is_int_of_four, first_int, with_int, room_for_int}
 use Rattle.model.specs.Chain.{no_row, type_at}
 use Rattle.model.specs.Collected.{Collected, object_fits}
@@ -14,7 +16,7 @@ use Rattle.model.specs.Tables.{Tables}
 use Rattle.model.specs.declared.btf.BtfType.{BtfType}
 use Rattle.model.specs.declared.btf.DataSecEntry.{DataSecEntry}
 use Rattle.model.specs.declared.refusal.Reason.TheVariants.{NoRoom}
-use Rattle.model.proofs.Lookups.{some_not, some_same}
+use Rattle.model.specs.declared.rows.Span.{Span}
 use Rattle.model.proofs.Grown.{alike_length, alike_at, Fits, Rewritten, rewritten_same, rewritten_on, Declared, declared_is, longer_at, longer_length, longer_entries}
 use Rattle.model.proofs.Fixes.{at_set, part_in, id_at, row_at, by_entry, entry_rewritten, entry_id, entry_other, after, entries_keep, entries_rewritten, begin, size, gone, section_rewritten, with_one, done, done_is, one_longer, found_row, one_section, one_fits, one_declared, done_found, object_parts, object_collected}
 
@@ -26,31 +28,20 @@ pub record Good (ts : List BtfType) (int x : ℕ) : Type 0 where
   pub global : (type_at ts x).«data» ≡ 1
 
 kinds_apart : (r : BtfType) (a b : ℕ) → (a ≡ b → ⊥) → eqb (kind_number r.kind) a ≡ true → eqb (kind_number r.kind) b ≡ false
-kinds_apart r a b n h = ne_eqb _ _ (λ e. n (sym (eqb-true (kind_number r.kind) a h) ∙ e))
+kinds_apart r a b n h = search rules
 
 good_func : (ts : List BtfType) (int x : ℕ) → Good ts int x → is_func (type_at ts x) ≡ false
-good_func ts int x g = kinds_apart (type_at ts x) 14 12 (λ e. omega arith) g.var
+good_func ts int x g = search rules
 
 -- another row is set, or the row itself is made so
 good_set : (ts : List BtfType) (int id x : ℕ) (r : BtfType) → ((x ≡ id) → ⊥) → Good ts int x → Good (set ts id r) int x
-good_set ts int id x r n g =
-    let same : type_at (set ts id r) x ≡ type_at ts x = get_or-set_other ts id x r no_row n in
-    let l = length-set ts id r in
-    let b = g.below in
-    record { below = omega arith; var = ap is_var same ∙ g.var; type = ap (λ (z : BtfType). z.size_or_type) same ∙ g.type; global = ap (λ (z : BtfType). z.«data») same ∙ g.global }
+good_set ts int id x r n g = search rules
 
 good_made : (ts : List BtfType) (int x : ℕ) → x < length ts → is_var (type_at ts x) ≡ true → Good (set ts x (global_var int (type_at ts x))) int x
-good_made ts int x lt v =
-    let r = global_var int (type_at ts x) in
-    let same : type_at (set ts x r) x ≡ r = get_or-set_same ts x r no_row lt in
-    let l = length-set ts x r in
-    record { below = omega arith; var = ap is_var same ∙ v; type = ap (λ (z : BtfType). z.size_or_type) same; global = ap (λ (z : BtfType). z.«data») same }
+good_made ts int x lt v = search rules
 
 good_var : (ts : List BtfType) (int id x : ℕ) → Good ts int x → Good (set ts id (global_var int (type_at ts id))) int x
-good_var ts int id x g =
-    ⊎_elim
-    (λ (e : x ≡ id). subst (λ j. Good (set ts j (global_var int (type_at ts j))) int x) e (good_made ts int x g.below g.var))
-    (λ n. good_set ts int id x (global_var int (type_at ts id)) n g) (cases_eq x id)
+good_var ts int id x g = search rules
 
 -- what was fixed stays fixed
 good_entry : (p : Option ℕ) (int at i : ℕ) (t : Tables) (x : ℕ) → Good t.types int x → Good (fix_entry p int at i t).types int x
@@ -83,18 +74,7 @@ placed_entry p int at i t lt b v f h =
 
 -- ---- a fixed entry is left
 pub idle_entry : (p : Option ℕ) (int at i : ℕ) (t : Tables) → Placed t int at i → fix_entry p int at i t ≡ t
-idle_entry p int at i t h =
-    let none : DataSecEntry = record { btf_type = 0; offset = 0; size = 0 } in
-    let id = id_at p int at i t in
-    let is : id ≡ h.0 = ap (λ (z : DataSecEntry). z.btf_type) h.1 in
-    let g : Good t.types int id = subst (Good t.types int) (sym is) h.2 in
-    let row = type_at t.types id in
-    let same : global_var int row ≡ row =
-    λ k. record { kind = row.kind; name_offset = row.name_offset; info = row.info; size_or_type = sym g.type k; «data» = sym g.global k; start = row.start; len = row.len } in
-    let here : placed id i ≡ entry_at t.entries at = ap (λ j. placed j i) is ∙ sym h.1 in
-    let types : set t.types id (global_var int row) ≡ t.types = ap (set t.types id) same ∙ set-get_or t.types id no_row in
-    let entries : set t.entries at (placed id i) ≡ t.entries = ap (set t.entries at) here ∙ set-get_or t.entries at none in
-    cond-false (is_func row) (fix_func_by p at i id t) (fix_var int at i id t) (good_func t.types int id g) ∙ (λ k. with_rows (types k) (entries k) t.params t)
+idle_entry p int at i t h = grind (arith, common_steps)
 
 pub idle_entries : (p : Option ℕ) (int start : ℕ) (t : Tables) (len : ℕ) → ((j : ℕ) → j < len → Placed t int (start + j) j) → fix_entries p int start (range_with_len 0 len) t ≡ t
 idle_entries p int start t len h =
@@ -102,20 +82,11 @@ idle_entries p int start t len h =
 
 -- ---- a Func or a Var is no Int, before and after
 no_int : (r : BtfType) → (is_func r || is_var r) ≡ true → is_int r ≡ false
-no_int r h = ⊎_elim (λ e. kinds_apart r 12 1 (λ n. omega arith) e) (λ e. kinds_apart r 14 1 (λ n. omega arith) e) (or_cases (is_func r) (is_var r) h)
+no_int r h = search rules
 
 int_entry : (p : Option ℕ) (int at i : ℕ) (t : Tables) → (is_func (row_at p int at i t) || is_var (row_at p int at i t)) ≡ true
     → (x : ℕ) → is_int_of_four (type_at (fix_entry p int at i t).types x) ≡ is_int_of_four (type_at t.types x)
-int_entry p int at i t v x =
-    let id = id_at p int at i t in
-    let row = row_at p int at i t in
-    by_entry p int at i t (λ u. is_int_of_four (type_at u.types x) ≡ is_int_of_four (type_at t.types x))
-    (λ q s e. ⊎_elim (λ r. ap is_int_of_four r.2 ∙ ap (λ j. is_int_of_four (type_at t.types j)) (sym r.0)) (λ r. ap is_int_of_four r) (at_set t.types id (global_func row) no_row x))
-    (λ s e. refl)
-    (λ e.
-    ⊎_elim
-    (λ r. ap is_int_of_four r.2 ∙ and_left (is_int row) _ (no_int row v) ∙ sym (and_left (is_int row) (eqb row.size_or_type 4) (no_int row v)) ∙ ap (λ j. is_int_of_four (type_at t.types j)) (sym r.0))
-    (λ r. ap is_int_of_four r) (at_set t.types id (global_var int row) no_row x))
+int_entry p int at i t v x = search (rules, by_entry, at_set, and_left, no_int)
 
 -- ---- after the first time each entry is fixed
 module _ (p : Option ℕ) (int start : ℕ) (t : Tables) (len : ℕ) where
@@ -176,40 +147,31 @@ module _ (p : Option ℕ) (d int : ℕ) (t : Tables) (lt : d < length t.types) (
   last = (gone p d int t).types
 
   last_section : is_data_sec (type_at last d) ≡ true
-  last_section = ap (λ k. eqb (kind_number k) 15) (alike_at t.types last (entries_rewritten p int (begin p d int t) t (size p d int t)).types d).kind ∙ sec
+  last_section = search (rules, alike_at, entries_rewritten)
 
   good_end : (x : ℕ) → Good last int x → Good end.types int x
-  good_end x g =
-      good_set last int d x (sized (4 * size p d int t) (type_at last d))
-      (λ e. true≢false (sym last_section ∙ ap (λ j. is_data_sec (type_at last j)) (sym e) ∙ kinds_apart (type_at last x) 14 15 (λ n. omega arith) g.var)) g
+  good_end x g = search (rules, good_set, true≢false, last_section, kinds_apart)
 
   ints_end : (x : ℕ) → is_int_of_four (type_at end.types x) ≡ is_int_of_four (type_at last x)
-  ints_end x =
-      let row = type_at last d in
-      let no : is_int row ≡ false = kinds_apart row 15 1 (λ n. omega arith) last_section in
-      ⊎_elim
-      (λ r. ap is_int_of_four r.2 ∙ and_left (is_int row) _ no ∙ sym (and_left (is_int row) (eqb row.size_or_type 4) no) ∙ ap (λ j. is_int_of_four (type_at last j)) (sym r.0))
-      (λ r. ap is_int_of_four r) (at_set last d (sized (4 * size p d int t) row) no_row x)
+  ints_end x = search (rules, kinds_apart, last_section, and_left, at_set)
 
   end_row : type_at end.types d ≡ sized (4 * size p d int t) (type_at last d)
-  end_row =
-      let n = alike_length t.types last (entries_rewritten p int (begin p d int t) t (size p d int t)).types in
-      get_or-set_same last d (sized (4 * size p d int t) (type_at last d)) no_row (omega arith)
+  end_row = search (rules, alike_length, entries_rewritten, get_or-set_same)
 
   -- where each entry is fixed nothing changes
   section_idle : ((j : ℕ) → j < size p d int t → Placed (gone p d int t) int (begin p d int t + j) j) → fix_section p d int end ≡ end
   section_idle h =
       let s = alike_at t.types end.types (section_rewritten p d int t).types d in
       let row = type_at end.types d in
-      let n : row.size_or_type ≡ 4 * row.len = ap (λ (r : BtfType). r.size_or_type) end_row ∙ ap (λ k. 4 * k) (sym s.len) in
-      let same : sized (4 * row.len) row ≡ row =
-      λ k. record { kind = row.kind; name_offset = row.name_offset; info = row.info; size_or_type = sym n k; «data» = row.«data»; start = row.start; len = row.len } in
-      let idle : fix_entries p int row.start (range_with_len 0 row.len) end ≡ end =
-      idle_entries p int row.start end row.len
+      let n : row.size_or_type ≡ 4 * row.parts.len = ap (λ (r : BtfType). r.size_or_type) end_row ∙ ap (λ (k : Span). 4 * k.len) (sym s.parts) in
+      let same : sized (4 * row.parts.len) row ≡ row =
+      λ k. record { kind = row.kind; name_offset = row.name_offset; info = row.info; size_or_type = sym n k; «data» = row.«data»; parts = row.parts } in
+      let idle : fix_entries p int row.parts.start (range_with_len 0 row.parts.len) end ≡ end =
+      idle_entries p int row.parts.start end row.parts.len
       (λ j l.
-      let k = h j (subst (λ m. j < m) s.len l) in
-      subst (λ b. Placed end int (b + j) j) (sym s.start) (k.0, k.1, good_end k.0 k.2)) in
-      ap (λ (u : Tables). with_rows (set u.types d (sized (4 * row.len) (type_at u.types d))) u.entries u.params u) idle
+      let k = h j (subst (λ (m : Span). j < m.len) s.parts l) in
+      subst (λ (b : Span). Placed end int (b.start + j) j) (sym s.parts) (k.0, k.1, good_end k.0 k.2)) in
+      ap (λ (u : Tables). with_rows (set u.types d (sized (4 * row.parts.len) (type_at u.types d))) u.entries u.params u) idle
       ∙ ap (λ ts. with_rows ts end.entries end.params end) (ap (set end.types d) same ∙ set-get_or end.types d no_row)
 
 -- ---- the int row, once more
@@ -227,14 +189,13 @@ same_first n (t ∷ ts) (u ∷ us) e h =
     (cases_Bool (is_int_of_four t))
 
 number_none : {X : Type 0} (o : Option (ℕ × X)) → number_of o ≡ None → o ≡ None
-number_none None e = refl
-number_none (Some k) e = absurd (some_not k.0 e)
+number_none o e = search rules
 
 first_push : (n : ℕ) (ts : List BtfType) (u : BtfType) → is_int_of_four u ≡ true → lookup is_int_of_four n ts ≡ None
     → number_of (lookup is_int_of_four n (ts ++ u ∷ [])) ≡ Some (n + length ts)
 first_push n [] u i e = let on : n ≡ n + 0 = omega arith in ap number_of (cond-true (is_int_of_four u) (Some (n, u)) None i) ∙ ap Some on
 first_push n (t ∷ ts) u i e =
-    ⊎_elim (λ b. absurd (some_not (n, t) (sym (cond-true (is_int_of_four t) (Some (n, t)) (lookup is_int_of_four (suc n) ts) b) ∙ e)))
+    ⊎_elim (λ b. absurd (none-some (n, t) (sym e ∙ cond-true (is_int_of_four t) (Some (n, t)) (lookup is_int_of_four (suc n) ts) b)))
     (λ b.
     let on : suc n + length ts ≡ n + suc (length ts) = omega arith in
     ap number_of (cond-false (is_int_of_four t) (Some (n, t)) (lookup is_int_of_four (suc n) (ts ++ u ∷ [])) b)
@@ -242,10 +203,7 @@ first_push n (t ∷ ts) u i e =
     (cases_Bool (is_int_of_four t))
 
 first_with : (t : Tables) (o : Option ℕ) → first_int t.types ≡ o → first_int (with_int o t).1.types ≡ Some (with_int o t).0
-first_with t None e =
-    let on : 0 + length t.types ≡ length t.types = omega arith in
-    first_push 0 t.types (int_row (length t.strings)) refl (number_none (lookup is_int_of_four 0 t.types) e) ∙ ap Some on
-first_with t (Some i) e = e
+first_with t o e = search (rules, first_push, number_none)
 
 -- ---- the whole
 abbrev pub GlobalVar : Option ℕ → Tables → Type 0
@@ -253,12 +211,10 @@ GlobalVar p t = (q : ℕ) → p ≡ Some q → (is_var (type_at t.types q) ≡ t
 
 -- the int row is the type of the placeholder
 int_is : (p : Option ℕ) (t : Tables) (q : ℕ) → p ≡ Some q → (type_at t.types q).size_or_type ≡ (with_int (int_of p t.types) t).0
-int_is None t q e = absurd (some_not q (sym e))
-int_is (Some r) t q e = ap (λ j. (type_at t.types j).size_or_type) (sym (some_same r q e))
+int_is p t q e = search rules
 
 int_again : (p : Option ℕ) (v : Tables) (int : ℕ) → ((q : ℕ) → p ≡ Some q → Good v.types int q) → (p ≡ None → first_int v.types ≡ Some int) → int_of p v.types ≡ Some int
-int_again None v int g f = f refl
-int_again (Some q) v int g f = ap Some (g q refl).type
+int_again p v int g f = search rules
 
 module _ (o : Object) (c : Collected o) (f : Fits o.tables) (g : GlobalVar o.placeholder o.tables) where
   abbrev p : Option ℕ
@@ -274,18 +230,7 @@ module _ (o : Object) (c : Collected o) (f : Fits o.tables) (g : GlobalVar o.pla
   d = c.section
 
   held : (q : ℕ) → p ≡ Some q → Good one.types int q × Ready p int (begin p d int one) one (size p d int one) q
-  held q e =
-      let h = one_declared o c q (c.placeholder q e) in
-      let same = longer_at o.tables one (one_longer o c) q (declared_is o.tables q (c.placeholder q e)).below in
-      let v = g q e in (
-        record {
-          below = h.below;
-          var = ap is_var same ∙ v.0;
-          type = ap (λ (r : BtfType). r.size_or_type) same ∙ int_is p o.tables q e;
-          global = ap (λ (r : BtfType). r.«data») same ∙ v.1;
-        },
-        (h, λ k. ap is_some e),
-      )
+  held q e = search rules
 
   went : Going p int (begin p d int one) one (size p d int one) (size p d int one) (gone p d int one)
   went =
@@ -316,9 +261,7 @@ module _ (o : Object) (c : Collected o) (f : Fits o.tables) (g : GlobalVar o.pla
   done_idle = section_idle p d int one one_lt (one_section o c) went.fixed
 
   done_twice : fixed_tables p (done o c) ≡ done o c
-  done_twice =
-      ap (λ r. fix_found p r (with_int (int_of p (done o c).types) (done o c))) (done_found o c)
-      ∙ ap (λ i. fix_section p d (with_int i (done o c)).0 (with_int i (done o c)).1) done_int ∙ done_idle
+  done_twice = search (rules, done_found, done_int, done_idle)
 
 -- the same with the list of externs taken apart
 pub record Again (xs : List Extern) (p : Option ℕ) (t : Tables) : Type 0 where

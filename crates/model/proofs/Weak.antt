@@ -1,7 +1,8 @@
 -- Weak for strong: what is granted on an object is granted with some of its externs made weak, and ends alike.
-use Rattle.std.proofs.Common.{◌≡◌, ℕ, suc, ◌/◌, Bool, true, false, cond, not, ◌&&◌, ◌||◌, eqb, leb, List, [], ◌∷◌, map, length, is_some, is_ok, Some, None, Ok, Err, Option, Result, sym, refl, ap, ◌∙◌, subst, inl, inr, ⊎_elim}
+use Rattle.std.proofs.Common.{rules, ◌≡◌, ℕ, suc, ◌/◌, Bool, true, false, cond, not, ◌&&◌, ◌||◌, eqb, leb, List, [], ◌∷◌, map, length, is_some, is_ok, Some, None, Ok, Err, Option, Result, sym, refl, ap, ◌∙◌, subst, inl, inr, ⊎_elim}
 use Rattle.std.specs.Str.{bytes_eq}
 use Rattle.std.proofs.lemmas.Bool.{cond-true, cond-false, cond_both, cases_Bool, and_from, and_left, and_right, or_left}
+use Rattle.std.proofs.lemmas.Option.{none-some}
 use Rattle.kallsyms.specs.declared.ends.End.{End}
 use Rattle.model.specs.Collect.{collect, section_of}
 use Rattle.model.specs.Collected.{declares, distinct, found_fits, externs_fit, collected_if_any, object_fits}
@@ -11,7 +12,8 @@ use Rattle.model.specs.Laws.{AllGranted, SameButWeak, FollowsAlike, WeakForStron
 use Rattle.model.specs.Lines.{Line, said, first_address}
 use Rattle.model.specs.Lines.Line.{line, short}
 use Rattle.model.specs.Lists.{In, lookup}
-use Rattle.model.specs.Names.{name_at, reads_as, part}
+use Rattle.model.specs.Names.{name_at, reads_as}
+use Rattle.model.specs.Spans.{part}
 use Rattle.model.specs.Relocate.{Program, code_fits, relocations_fit, functions_fit, program_fits, Taken, taken, slot_index, slot_at, is_call, is_load, call_slot, load_value, with_call, with_load, patch_extern, patch_found, patch_name, patch_symbol, patch, patched, on_slot, symbol_of, extern_name}
 use Rattle.model.specs.Resolve.{candidate, id_if_fits, fitting_id, catalogue_refusal, typed_refusal, wanted, wanted_refusal, line_refusal, missing_refusal, lines_refusal, given_id, given_address, settled, zeroed, given}
 use Rattle.model.specs.Runs.{State, Step, brings_fit, fits, reason, answered, granted, made, patched_code, next, runs}
@@ -26,7 +28,7 @@ use Rattle.model.specs.declared.rows.Symbol.{Symbol}
 use Rattle.model.proofs.Granted.{granted_parts, granted_from, Clear, clear, lines_parts, lines_from, none_missing, go_on}
 use Rattle.model.proofs.Grants.{row_fits}
 use Rattle.model.proofs.History.{given_kept, kept_weak}
-use Rattle.model.proofs.Lookups.{some_not, err_not, or_else_from, when_parts, first_none, none_first}
+use Rattle.model.proofs.Lookups.{err_not, or_else_from, when_parts, first_none, none_first}
 use Rattle.model.proofs.WeakCollect.{rows_masked, changed_is, symbols_fit_weak, masked_length, in_masked, map_masked, any_masked, all_masked, Found, lookup_masked, weaker, weakened, weakened_object, Alike, collect_alike}
 
 abbrev weakened_state : (ℕ → Bool) → State → State
@@ -39,36 +41,29 @@ distinct_weak m (x ∷ xs) = λ i.
     not (any_masked weaker (λ y. bytes_eq y.name x.name) (λ b y. refl) (λ j. m (suc j)) xs i) && distinct_weak (λ j. m (suc j)) xs i
 
 externs_fit_weak : (t : Tables) (m : ℕ → Bool) (xs : List Extern) → externs_fit t (weakened m xs) ≡ externs_fit t xs
-externs_fit_weak t m xs = λ i.
-    all_masked weaker (λ x. declares t x.entry && reads_as (name_at t.strings x.place) x.name) (λ b x. refl) m xs i && distinct_weak m xs i
+externs_fit_weak t m xs = search (rules, all_masked, distinct_weak)
 
 collected_weak : (m : ℕ → Bool) (o : Object) (xs : List Extern) → collected_if_any (weakened_object m o) (weakened m xs) ≡ collected_if_any o xs
-collected_weak m o [] = refl
-collected_weak m o (x ∷ xs) = ap (λ b. found_fits o.tables o.placeholder (section_of o.tables) && b) (externs_fit_weak o.tables m o.externs)
+collected_weak m o xs = search (rules, externs_fit_weak)
 
 object_fits_weak : (m : ℕ → Bool) (o : Object) → object_fits (weakened_object m o) ≡ object_fits o
-object_fits_weak m o = λ i. tables_fit o.tables && (leb (masked_length weaker m o.externs i) MAX_EXTERNS && collected_weak m o o.externs i)
+object_fits_weak m o = search (rules, masked_length, collected_weak)
 
 fits_weak : (s : Step) (m : ℕ → Bool) (st : State) → fits s (weakened_state m st) ≡ fits s st
-fits_weak s m st = ap (λ b. b && brings_fit s st.code) (object_fits_weak m st.object)
+fits_weak s m st = search (rules, object_fits_weak)
 
 -- ---- a granted resolution is granted
 typed_weak : (c : Option Catalogue) (b : Bool) (x : Extern) → typed_refusal c x ≡ None → typed_refusal c (weaker b x) ≡ None
-typed_weak c true x h = cond-false _ _ _ (and_right (is_some x.typed) false refl)
-typed_weak c false x h = h
+typed_weak c b x h = search rules
 
 missing_weak : (ls : List Line) (b : Bool) (x : Extern) → missing_refusal ls x ≡ None → missing_refusal ls (weaker b x) ≡ None
-missing_weak ls true x h = cond-false _ _ _ (and_left _ _ (and_right (wanted x) false refl))
-missing_weak ls false x h = h
+missing_weak ls b x h = search rules
 
 line_same : (a : ℕ) (b : Option ℕ) (o q : Option (ℕ × Extern)) → Found weaker o q → wanted_refusal q a b ≡ wanted_refusal o a b
-line_same a b None q w = ap (λ o. wanted_refusal o a b) w
-line_same a None (Some k) q w = ap (λ o. wanted_refusal o a None) w.1
-line_same a (Some b) (Some k) q w = ap (λ o. wanted_refusal o a (Some b)) w.1
+line_same a b o q w = search rules
 
 line_weak : (m : ℕ → Bool) (xs : List Extern) (ls : List Line) (l : Line) → line_refusal (weakened m xs) ls l ≡ line_refusal xs ls l
-line_weak m xs ls (line n o) = line_same (first_address n ls) o _ _ (lookup_masked weaker (λ x. wanted x && bytes_eq x.name n) (λ b x. refl) 0 m xs)
-line_weak m xs ls short = refl
+line_weak m xs ls l = search (rules, line_same, lookup_masked)
 
 lines_weak : (m : ℕ → Bool) (xs : List Extern) (ls : List Line) (e : End) → lines_refusal xs ls e ≡ None → lines_refusal (weakened m xs) ls e ≡ None
 lines_weak m xs ls e h =
@@ -82,69 +77,39 @@ lines_weak m xs ls e h =
     ))
 
 clear_weak : (m : ℕ → Bool) (c : Option Catalogue) (ls : List (List ℕ)) (e : End) (xs : List Extern) → Clear c ls e xs → Clear c ls e (weakened m xs)
-clear_weak m c ls e xs k =
-    record {
-      typed = λ y i. let w = in_masked weaker m xs y i in ap (typed_refusal c) w.3 ∙ typed_weak c w.0 w.1 (k.typed w.1 w.2);
-      lines = lines_weak m xs (map said ls) e k.lines;
-    }
+clear_weak m c ls e xs k = search (rules, in_masked, typed_weak, lines_weak)
 
 -- ---- what a granted resolution sets
 weaker_same : (b : Bool) (x : Extern) → x.weak ≡ true → weaker b x ≡ x
-weaker_same true x e =
-    λ i. record { name = x.name; place = x.place; entry = x.entry; func = x.func; typed = x.typed; weak = sym e i; resolved = x.resolved; id = x.id; address = x.address }
-weaker_same false x e = refl
+weaker_same b x e = search rules
 
 given_id_weak : (b : Bool) (o : Option ℕ) (x : Extern) → given_id o (weaker b x) ≡ weaker b (given_id o x)
-given_id_weak b None x = refl
-given_id_weak b (Some i) x = refl
+given_id_weak b o x = search rules
 
 cond_weak : (b t : Bool) (x y : Extern) → cond t (weaker b x) (weaker b y) ≡ weaker b (cond t x y)
-cond_weak b true x y = refl
-cond_weak b false x y = refl
+cond_weak b t x y = search rules
 
 fitting_weak : (c : Option Catalogue) (b : Bool) (x : Extern) → fitting_id c (weaker b x) ≡ fitting_id c x
-fitting_weak None b x = refl
-fitting_weak (Some c) b x = refl
+fitting_weak c b x = search rules
 
 settled_weak : (c : Option Catalogue) (ls : List Line) (b : Bool) (x : Extern) → settled c ls (weaker b x) ≡ weaker b (settled c ls x)
-settled_weak c ls b x =
-    let a = first_address x.name ls in
-    let by_id : given_id (fitting_id c (weaker b x)) (weaker b x) ≡ weaker b (given_id (fitting_id c x) x) = ap (λ o. given_id o (weaker b x)) (fitting_weak c b x) ∙ given_id_weak b (fitting_id c x) x in
-    let by_address : given_address a (weaker b x) ≡ weaker b (given_address a x) = cond_weak b (x.resolved || eqb a 0) x (resolved_to x.id (Some a) x) in
-    (λ i. cond (is_some x.typed) (by_id i) (by_address i)) ∙ cond_weak b (is_some x.typed) (given_id (fitting_id c x) x) (given_address a x)
+settled_weak c ls b x = search rules
 
 fits_id : (c : Option Catalogue) (x : Extern) → catalogue_refusal c x ≡ None → (i : ℕ) × (fitting_id c x ≡ Some i)
-fits_id None x h = absurd (some_not _ h)
+fits_id None x h = absurd (none-some _ (sym h))
 fits_id (Some c) x h =
     let k = row_fits x (candidate c x) h in
     (k.0.1.id, ap id_if_fits k.1 ∙ cond-true _ _ _ k.2)
 
 -- a strong extern is resolved by a granted resolution
 strong_resolved : (c : Option Catalogue) (ls : List Line) (x : Extern) → typed_refusal c x ≡ None → missing_refusal ls x ≡ None → x.weak ≡ false → (settled c ls x).resolved ≡ true
-strong_resolved c ls x h k w =
-    cond_both (is_some x.typed) (given_id (fitting_id c x) x) (given_address (first_address x.name ls) x) (λ y. y.resolved ≡ true)
-    (λ t.
-    let i = fits_id c x (when_parts _ _ h (and_from _ _ t (ap not w))) in
-    ap (λ o. (given_id o x).resolved) i.1)
-    (λ t. cond_both (x.resolved || eqb (first_address x.name ls) 0) x _ (λ y. y.resolved ≡ true)
-    (λ o. ⊎_elim (λ y. y)
-    (λ y.
-    let z : eqb (first_address x.name ls) 0 ≡ true = ap (λ v. v || eqb (first_address x.name ls) 0) (sym y) ∙ o in
-    absurd (some_not _ (when_parts ((wanted x && not x.weak) && eqb (first_address x.name ls) 0) (Some _) k (and_from _ _ (and_from _ _ (and_from _ _ (ap not t) (ap not y)) (ap not w)) z))))
-    (cases_Bool x.resolved))
-    (λ _. refl))
+strong_resolved c ls x h k w = search rules
 
 zeroed_same : (x : Extern) → x.resolved ≡ true → zeroed x ≡ x
-zeroed_same x e = cond-true _ _ _ (or_left _ _ e)
+zeroed_same x e = search rules
 
 given_weak : (c : Option Catalogue) (ls : List Line) (b : Bool) (x : Extern) → typed_refusal c x ≡ None → missing_refusal ls x ≡ None → given c ls (weaker b x) ≡ weaker b (given c ls x)
-given_weak c ls b x h k =
-    ⊎_elim
-    (λ w. ap (given c ls) (weaker_same b x w) ∙ sym (weaker_same b (given c ls x) (kept_weak (given_kept c ls x) ∙ w)))
-    (λ w.
-    let s = strong_resolved c ls x h k w in
-    ap zeroed (settled_weak c ls b x) ∙ zeroed_same (weaker b (settled c ls x)) s ∙ ap (weaker b) (sym (zeroed_same (settled c ls x) s)))
-    (cases_Bool x.weak)
+given_weak c ls b x h k = search rules
 
 map_weak :
     (f : Extern → Extern) (m : ℕ → Bool) (xs : List Extern)
@@ -164,26 +129,16 @@ cond_same false p q p' q' h k = k
 
 module _ (code : List Slot) (t : Taken) where
   call_weak : (id : Option ℕ) (resolved weak : Bool) (name : Span) (s : Slot) → Same (with_call code t (call_slot id resolved weak name t s)) (with_call code t (call_slot id resolved true name t s))
-  call_weak (Some id) resolved weak name s x e = e
-  call_weak None true weak name s x e = e
-  call_weak None false true name s x e = e
-  call_weak None false false name s x e = absurd (err_not _ x e)
+  call_weak id resolved weak name s x e = search rules
 
   load_weak : (id address : Option ℕ) (weak : Bool) (name : Span) → Same (with_load code name t (load_value id address weak)) (with_load code name t (load_value id address true))
-  load_weak (Some id) address weak name x e = e
-  load_weak None (Some a) weak name x e = e
-  load_weak None None true name x e = e
-  load_weak None None false name x e = absurd (err_not _ x e)
+  load_weak id address weak name x e = search rules
 
   extern_weak : (b : Bool) (x : Extern) (name : Span) → Same (patch_extern x name t code) (patch_extern (weaker b x) name t code)
-  extern_weak false x name = λ y e. e
-  extern_weak true x name =
-      cond_same (is_call (slot_at code (slot_index t))) _ _ _ _ (call_weak x.id x.resolved x.weak name _)
-      (cond_same (is_load (slot_at code (slot_index t))) _ _ _ _ (load_weak x.id x.address x.weak name) (λ y e. e))
+  extern_weak b x name = search rules
 
   found_weak : (name : Span) (o q : Option (ℕ × Extern)) → Found weaker o q → Same (patch_found o name t code) (patch_found q name t code)
-  found_weak name None q w x e = ap (λ z. patch_found z name t code) w ∙ e
-  found_weak name (Some k) q w x e = ap (λ z. patch_found z name t code) w.1 ∙ extern_weak w.0 k.1 name x e
+  found_weak name o q w x e = search rules
 
   module _ (m : ℕ → Bool) (xs : List Extern) where
     name_weak : (names : List ℕ) (o : Option Span) → Same (patch_name xs names o t code) (patch_name (weakened m xs) names o t code)
@@ -191,11 +146,10 @@ module _ (code : List Slot) (t : Taken) where
     name_weak names (Some n) = found_weak n _ _ (lookup_masked weaker (λ x. bytes_eq x.name (part names n)) (λ b x. refl) 0 m xs)
 
     symbol_weak : (names : List ℕ) (o : Option (ℕ × Symbol)) → Same (patch_symbol xs names o t code) (patch_symbol (weakened m xs) names o t code)
-    symbol_weak names None = λ x e. e
-    symbol_weak names (Some k) = name_weak names (extern_name k.1)
+    symbol_weak names o = search (rules, name_weak)
 
     patch_weak : (ss : Symbols) → Same (patch xs ss t code) (patch (weakened m xs) ss t code)
-    patch_weak ss = cond_same (on_slot t) _ _ _ _ (symbol_weak ss.names (symbol_of ss t)) (λ x e. e)
+    patch_weak ss = search (rules, cond_same, symbol_weak)
 
 patched_weak : (m : ℕ → Bool) (xs : List Extern) (ss : Symbols) (ts : List Taken) (code : List Slot) → (patched xs ss ts code).1 ≡ None → patched (weakened m xs) ss ts code ≡ patched xs ss ts code
 patched_weak m xs ss [] code h = refl
@@ -203,14 +157,13 @@ patched_weak m xs ss (t ∷ ts) code h =
     let again : (p : Result (List Slot) Reason) → patch xs ss t code ≡ p → (go_on xs ss ts code p).1 ≡ None → go_on (weakened m xs) ss ts code (patch (weakened m xs) ss t code) ≡ go_on xs ss ts code p =
     elim [
       | Ok new ↦ λ e k. ap (go_on (weakened m xs) ss ts code) (patch_weak code t m xs ss new e) ∙ patched_weak m xs ss ts new k
-      | Err e ↦ λ q k. absurd (some_not e k)
+      | Err e ↦ λ q k. absurd (none-some e (sym k))
     ] in
     again (patch xs ss t code) refl h
 
 -- ---- one call
 fix_weak : (m : ℕ → Bool) (xs : List Extern) (p : Option ℕ) (t : Tables) → (fix_refusal_for (weakened m xs) p t ≡ fix_refusal_for xs p t) × (fixed_for (weakened m xs) p t ≡ fixed_for xs p t)
-fix_weak m [] p t = (refl, refl)
-fix_weak m (x ∷ xs) p t = (refl, refl)
+fix_weak m xs p t = search rules
 
 -- a call that meets no refusal meets none, makes the same object but for the weak marks, and the same code
 record Follows (s : Step) (m : ℕ → Bool) (st : State) : Type 0 where
@@ -268,45 +221,27 @@ runs_weak m (s ∷ ss) st g =
     ((granted_weak s m st g.0, subst (AllGranted ss) (sym n) rest.0), ap (runs ss) n ∙ rest.1)
 
 same_weak : (m : ℕ → Bool) (st : State) → SameButWeak st (weakened_state m st)
-same_weak m st =
-    let xs = st.object.externs in
-    record {
-      externs = map_masked weaker unmarked (λ b x. refl) m xs;
-      addresses = map_masked weaker (λ x. x.address) (λ b x. refl) m xs;
-      ids = map_masked weaker (λ x. x.id) (λ b x. refl) m xs;
-      tables = refl;
-      placeholder = refl;
-      code = refl;
-    }
+same_weak m st = search (rules, map_masked)
 
 -- ---- calls that bring symbols declared weak
 abbrev weaker_program : (ℕ → Bool) → Program → Program
 weaker_program m p = record { functions = p.functions; relocations = p.relocations; symbols = weaker_symbols m p.symbols }
 
 symbol_marks : (xs : List Extern) (names : List ℕ) (t : Taken) (code : List Slot) (o q : Option (ℕ × Symbol)) → Found weaker_symbol o q → patch_symbol xs names q t code ≡ patch_symbol xs names o t code
-symbol_marks xs names t code None q w = ap (λ z. patch_symbol xs names z t code) w
-symbol_marks xs names t code (Some k) q w = ap (λ z. patch_symbol xs names z t code) w.1
+symbol_marks xs names t code o q w = search rules
 
 module _ (xs : List Extern) (m : ℕ → Bool) (ss : Symbols) where
   abbrev ww : Symbols
   ww = weaker_symbols m ss
 
   patch_marks : (t : Taken) (code : List Slot) → patch xs ww t code ≡ patch xs ss t code
-  patch_marks t code =
-      ap (λ r. cond (on_slot t) r (Err (Reason.InvalidRelocationOffset t.row)))
-      (ap (λ rs. patch_symbol xs ss.names (lookup (λ s. eqb s.index t.relocation.symbol) 0 rs) t code) (rows_masked m ss.rows)
-      ∙ symbol_marks xs ss.names t code _ _ (lookup_masked weaker_symbol (λ s. eqb s.index t.relocation.symbol) (λ b s. refl) 0 m ss.rows))
+  patch_marks t code = search (rules, rows_masked, symbol_marks, lookup_masked)
 
   patched_marks : (ts : List Taken) (code : List Slot) → patched xs ww ts code ≡ patched xs ss ts code
-  patched_marks [] code = refl
-  patched_marks (t ∷ ts) code =
-      let by : (p : Result (List Slot) Reason) → go_on xs ww ts code p ≡ go_on xs ss ts code p = elim [ Ok new ↦ patched_marks ts new | Err e ↦ refl ] in
-      ap (go_on xs ww ts code) (patch_marks t code) ∙ by (patch xs ss t code)
+  patched_marks ts code = search (rules, patch_marks)
 
 fits_marks : (m : ℕ → Bool) (p : Program) (code : List ℕ) → program_fits (weaker_program m p) code ≡ program_fits p code
-fits_marks m p code =
-    ap (λ b. code_fits code && (b && (relocations_fit p.relocations && functions_fit p.functions (length code / 8))))
-    (ap symbols_fit (changed_is m p.symbols) ∙ symbols_fit_weak m p.symbols)
+fits_marks m p code = search (rules, changed_is, symbols_fit_weak)
 
 record SameStep (s t : Step) (st : State) : Type 0 where
   pub grants : granted t st ≡ granted s st

@@ -1,5 +1,7 @@
 -- Externs made weak, and the collection of symbols declared weak.
-use Rattle.std.proofs.Common.{◌≡◌, ℕ, zero, suc, Bool, true, false, cond, ◌&&◌, ◌||◌, ltb, leb, List, [], ◌∷◌, map, length, Some, None, Ok, Err, Option, Result, sym, refl, ap, ◌∙◌, subst, inl, inr}
+use Rattle.std.proofs.Common.{rules, ◌≡◌, ℕ, zero, suc, Bool, true, false, cond, ◌&&◌, ◌||◌, ltb, leb, List, [], ◌∷◌, map, length, Some, None, Ok, Err, Option, Result, sym, refl, ap, ◌∙◌, subst, inl, inr}
+use Rattle.std.specs.Option.{option_or}
+use Rattle.std.specs.List.{list_any, list_all}
 use Rattle.std.specs.Str.{bytes_eq}
 use Rattle.std.proofs.lemmas.Bool.{cond-true, cond-false, cond_both}
 use Rattle.model.specs.Chain.{type_at, resolve_type}
@@ -7,7 +9,7 @@ use Rattle.model.specs.Collect.{symbol_named, chain_read, symbol_read, name_read
 use Rattle.model.specs.Externs.{Extern, Object}
 use Rattle.model.specs.Kinds.{is_func, is_var}
 use Rattle.model.specs.Laws.{weaker_symbol, weaker_rows, weaker_symbols}
-use Rattle.model.specs.Lists.{In, any, all, ascends, lookup, or_else, with_first, each}
+use Rattle.model.specs.Lists.{In, ascends, lookup, with_first, each}
 use Rattle.model.specs.Names.{name_at, reads_as}
 use Rattle.model.specs.Tables.{Tables, Symbols, MAX_ROWS, MAX_EXTERNS, MAX_NAMES, tables_fit, symbols_fit, inside_if_any, symbol_name}
 use Rattle.model.specs.declared.btf.BtfType.{BtfType}
@@ -42,11 +44,11 @@ module _ {X : Type 0} (f : Bool → X → X) where
 
   -- what does not read the change, is the same of the changed rows
   module _ (p : X → Bool) (h : (b : Bool) (x : X) → p (f b x) ≡ p x) where
-    pub any_masked : (m : ℕ → Bool) (xs : List X) → any p (masked f m xs) ≡ any p xs
+    pub any_masked : (m : ℕ → Bool) (xs : List X) → list_any p (masked f m xs) ≡ list_any p xs
     any_masked m [] = refl
     any_masked m (x ∷ xs) = λ i. h (m 0) x i || any_masked (λ j. m (suc j)) xs i
 
-    pub all_masked : (m : ℕ → Bool) (xs : List X) → all p (masked f m xs) ≡ all p xs
+    pub all_masked : (m : ℕ → Bool) (xs : List X) → list_all p (masked f m xs) ≡ list_all p xs
     all_masked m [] = refl
     all_masked m (x ∷ xs) = λ i. h (m 0) x i && all_masked (λ j. m (suc j)) xs i
 
@@ -90,24 +92,20 @@ weakened_object m o = record { tables = o.tables; externs = weakened m o.externs
 
 -- ---- weaker symbols
 pub rows_masked : (m : ℕ → Bool) (ss : List Symbol) → weaker_rows m ss ≡ masked weaker_symbol m ss
-rows_masked m [] = refl
-rows_masked m (s ∷ ss) = ap (λ t. weaker_symbol (m 0) s ∷ t) (rows_masked (λ i. m (suc i)) ss)
+rows_masked m ss = search rules
 
 module _ (m : ℕ → Bool) (ss : Symbols) where
   abbrev changed : Symbols
   changed = record { rows = masked weaker_symbol m ss.rows; names = ss.names }
 
   pub changed_is : weaker_symbols m ss ≡ changed
-  changed_is = λ i. record { rows = rows_masked m ss.rows i; names = ss.names }
+  changed_is = search rules
 
   pub symbols_fit_weak : symbols_fit changed ≡ symbols_fit ss
-  symbols_fit_weak = λ i.
-      (leb (masked_length weaker_symbol m ss.rows i) MAX_ROWS && leb (length ss.names) MAX_NAMES)
-      && (ascends_masked weaker_symbol (λ s t. ltb s.index t.index) (λ b c s t. refl) m ss.rows i
-      && all_masked weaker_symbol (λ s. inside_if_any ss.names s.name) (λ b s. refl) m ss.rows i)
+  symbols_fit_weak = search (rules, masked_length, ascends_masked, all_masked)
 
   symbol_named_weak : (name : List ℕ) → Found weaker_symbol (symbol_named ss name) (symbol_named changed name)
-  symbol_named_weak name = lookup_masked weaker_symbol (λ s. reads_as (symbol_name ss s) name) (λ b s. refl) 0 m ss.rows
+  symbol_named_weak name = search (rules, lookup_masked)
 
 -- ---- the same refusal, or a grant that a mark changes
 abbrev pub Alike : {D X : Type 0} → (D → X → X) → Result X Reason → Result X Reason → Type 0
@@ -115,30 +113,24 @@ Alike f (Err e) q = q ≡ Err e
 Alike {D} f (Ok x) q = (d : D) × (q ≡ Ok (f d x))
 
 cond_alike : {D X : Type 0} (f : D → X → X) (b : Bool) (p q : Result X Reason) (e : Reason) → Alike f p q → Alike f (cond b p (Err e)) (cond b q (Err e))
-cond_alike f true p q e h = h
-cond_alike f false p q e h = refl
+cond_alike f b p q e h = search rules
 
 -- ---- one entry
 chain_alike : (n id : ℕ) (row : BtfType) (name : List ℕ) (b weak : Bool) (r : Result ℕ ChainError) → Alike weaker (chain_read n id row name weak r) (chain_read n id row name (b || weak) r)
-chain_alike n id row name b weak (Err e) = refl
-chain_alike n id row name b weak (Ok target) = (b, refl)
+chain_alike n id row name b weak r = search rules
 
 symbol_alike : (ts : List BtfType) (n id : ℕ) (row : BtfType) (name : List ℕ) (o q : Option (ℕ × Symbol)) → Found weaker_symbol o q → Alike weaker (symbol_read ts n id row name o) (symbol_read ts n id row name q)
-symbol_alike ts n id row name None q w = ap (symbol_read ts n id row name) w
-symbol_alike ts n id row name (Some k) q w =
-    subst (λ o. Alike weaker (symbol_read ts n id row name (Some k)) (symbol_read ts n id row name o)) (sym w.1)
-    (chain_alike n id row name w.0 k.1.is_weak (resolve_type ts row.size_or_type))
+symbol_alike ts n id row name o q w = search rules
 
 module _ (t : Tables) (m : ℕ → Bool) (ss : Symbols) where
   name_alike : (n id : ℕ) (row : BtfType) (o : Option (List ℕ)) → Alike weaker (name_read t.types ss n id row o) (name_read t.types (changed m ss) n id row o)
-  name_alike n id row None = refl
-  name_alike n id row (Some name) = symbol_alike t.types n id row name _ _ (symbol_named_weak m ss name)
+  name_alike n id row o = search (rules, symbol_alike, symbol_named_weak)
 
   row_alike : (n id : ℕ) (row : BtfType) → Alike weaker (row_read t ss n id row) (row_read t (changed m ss) n id row)
-  row_alike n id row = cond_alike weaker (is_func row || is_var row) _ _ _ (name_alike n id row (name_at t.strings row.name_offset))
+  row_alike n id row = search (rules, cond_alike, name_alike)
 
   entry_alike : (n : ℕ) (e : DataSecEntry) → Alike weaker (entry_read t ss n e) (entry_read t (changed m ss) n e)
-  entry_alike n e = cond_alike weaker (ltb e.btf_type (length t.types)) _ _ _ (row_alike n e.btf_type (type_at t.types e.btf_type))
+  entry_alike n e = search (rules, cond_alike, row_alike)
 
 -- ---- all entries
 first_alike : (p q : Result Extern Reason) (ps qs : Result (List Extern) Reason) → Alike weaker p q → Alike weakened ps qs → Alike weakened (with_first p ps) (with_first q qs)
@@ -153,7 +145,7 @@ each_alike f g h n (x ∷ xs) = first_alike _ _ _ _ (h n x) (each_alike f g h (s
 -- ---- what is tested last
 -- two lists have the same names
 abbrev SameNames : List Extern → List Extern → Type 0
-SameNames xs ys = (n : List ℕ) → any (λ y. bytes_eq y.name n) ys ≡ any (λ y. bytes_eq y.name n) xs
+SameNames xs ys = (n : List ℕ) → list_any (λ y. bytes_eq y.name n) ys ≡ list_any (λ y. bytes_eq y.name n) xs
 
 duplicate_weak : (before front : List Extern) → SameNames before front → (n : ℕ) (m : ℕ → Bool) (xs : List Extern) → duplicate front n (weakened m xs) ≡ duplicate before n xs
 duplicate_weak before front h n m [] = refl
@@ -161,41 +153,29 @@ duplicate_weak before front h n m (x ∷ xs) = λ i.
     cond (h x.name i) (Some (Reason.DuplicateName n)) (duplicate_weak (x ∷ before) (weaker (m 0) x ∷ front) (λ z. ap (λ t. bytes_eq x.name z || t) (h z)) (suc n) (λ j. m (suc j)) xs i)
 
 made_weak : (func : Bool) (m : ℕ → Bool) (xs : List Extern) (t : Tables) → made func (weakened m xs) t ≡ weakened_object m (made func xs t)
-made_weak false m xs t = refl
-made_weak true m xs t = refl
+made_weak func m xs t = search rules
 
 unless_alike : (r : Option Reason) (m : ℕ → Bool) (o : Object) → Alike weakened_object (granted_unless r o) (granted_unless r (weakened_object m o))
-unless_alike None m o = (m, refl)
-unless_alike (Some e) m o = refl
+unless_alike r m o = search rules
 
 module _ (t : Tables) where
   rows_weak : (n : ℕ) (func : Bool) (m : ℕ → Bool) (xs : List Extern) → Alike weakened_object (collect_rows t n func (Ok xs)) (collect_rows t n func (Ok (weakened m xs)))
-  rows_weak n func m xs =
-      let last : or_else (duplicate [] n xs) (room_refusal func xs t) ≡ or_else (duplicate [] n (weakened m xs)) (room_refusal func (weakened m xs) t) = λ i.
-      or_else (sym (duplicate_weak [] [] (λ z. refl) n m xs) i) (cond (leb (sym (masked_length weaker m xs) i) MAX_EXTERNS && room_for_func func t) None (Some Reason.NoRoom)) in
-      subst (Alike weakened_object (collect_rows t n func (Ok xs))) (λ i. granted_unless (last i) (sym (made_weak func m xs t) i))
-      (unless_alike (or_else (duplicate [] n xs) (room_refusal func xs t)) m (made func xs t))
+  rows_weak n func m xs = search (rules, duplicate_weak, masked_length, made_weak, unless_alike)
 
   rows_alike : (n : ℕ) (func : Bool) (p q : Result (List Extern) Reason) → Alike weakened p q → Alike weakened_object (collect_rows t n func p) (collect_rows t n func q)
-  rows_alike n func (Err e) q h = ap (collect_rows t n func) h
-  rows_alike n func (Ok xs) q h = subst (λ r. Alike weakened_object (collect_rows t n func (Ok xs)) (collect_rows t n func r)) (sym h.1) (rows_weak n func h.0 xs)
+  rows_alike n func p q h = search (rules, rows_weak)
 
   module _ (m : ℕ → Bool) (ss : Symbols) where
     entries_alike : (n : ℕ) (es : List DataSecEntry) (r : Result Bool Reason) → Alike weakened_object (collect_entries t ss n es r) (collect_entries t (changed m ss) n es r)
-    entries_alike n es (Err e) = refl
-    entries_alike n es (Ok func) = rows_alike n func _ _ (each_alike (entry_read t ss) (entry_read t (changed m ss)) (entry_alike t m ss) n es)
+    entries_alike n es r = search (rules, rows_alike, each_alike, entry_alike)
 
     section_alike : (r : Result (Option ℕ) Reason) → Alike weakened_object (collect_section t ss r) (collect_section t (changed m ss) r)
     section_alike (Err e) = refl
     section_alike (Ok None) = (m, refl)
     section_alike (Ok (Some d)) =
-        let n = (type_at t.types d).start in
+        let n = (type_at t.types d).parts.start in
         entries_alike n (entries_of t d) (has_func t.types n (entries_of t d))
 
     -- ---- the whole: refused alike, or granted with the externs made weak by some mask
     pub collect_alike : Alike weakened_object (collect t ss) (collect t (weaker_symbols m ss))
-    collect_alike =
-        let whole = collect_section t (changed m ss) (section_of t) in
-        subst (λ r. Alike weakened_object (collect t ss) r)
-        (ap (λ b. cond (tables_fit t && b) whole (Err Reason.InvalidTable)) (sym (symbols_fit_weak m ss)) ∙ ap (collect t) (sym (changed_is m ss)))
-        (cond_alike weakened_object (tables_fit t && symbols_fit ss) _ _ _ (section_alike (section_of t)))
+    collect_alike = search (rules, symbols_fit_weak, changed_is, cond_alike, section_alike)

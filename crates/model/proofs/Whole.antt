@@ -1,8 +1,10 @@
 -- Runs of a collected object: it stays well-formed, and the laws of every list of calls.
-use Rattle.std.proofs.Common.{◌≡◌, ℕ, ◌+◌, ◌≤◌, Bool, true, cond, not, ◌&&◌, ◌||◌, leb, ◌⊎◌, List, [], ◌∷◌, map, length, Some, None, Option, sym, refl, ap, ◌∙◌, subst, inl, inr, ⊎_elim, arith}
+use Rattle.std.proofs.lemmas.Grind.{common_steps}
+use Rattle.std.proofs.Common.{rules, ◌≡◌, ℕ, ◌+◌, ◌≤◌, Bool, true, cond, not, ◌&&◌, ◌||◌, leb, ◌⊎◌, List, [], ◌∷◌, map, length, Some, None, Option, sym, refl, ap, ◌∙◌, subst, inl, inr, ⊎_elim, arith}
+use Rattle.std.specs.List.{list_any, list_all}
 use Rattle.std.specs.Str.{bytes_eq}
 use Rattle.std.proofs.lemmas.List.{length-map, length-append}
-use Rattle.std.proofs.lemmas.Bool.{cond-true, cond-false, cond_both, cases_Bool, and_from, and_right}
+use Rattle.std.proofs.lemmas.Bool.{cond-true, cond-false, cond_both, cases_Bool, and_from, and_right, false_from_ne_true}
 use Rattle.model.specs.Added.{int_name, int_row, with_int}
 use Rattle.model.specs.Collect.{section_of}
 use Rattle.model.specs.Collected.{declares, distinct, found_fits, externs_fit, collected_if_any, object_fits}
@@ -10,7 +12,6 @@ use Rattle.model.specs.Externs.{Extern, Object}
 use Rattle.model.specs.Fixup.{fixed, fixed_for, int_of}
 use Rattle.model.specs.Laws.{Starts, GrantedExactlyWhen, StaysWellFormed, AddressStands, NamesFindTheirExtern}
 use Rattle.model.specs.Lines.{said}
-use Rattle.model.specs.Lists.{any, all}
 use Rattle.model.specs.Names.{name_at, reads_as}
 use Rattle.model.specs.Resolve.{given}
 use Rattle.model.specs.Runs.{State, Step, brings_fit, fits, reason, granted, made, next, runs}
@@ -26,18 +27,17 @@ use Rattle.model.proofs.Grants.{after_calls}
 use Rattle.model.proofs.History.{Kept, given_kept, kept_name, after, runs_after}
 use Rattle.model.proofs.Grown.{alike_length}
 use Rattle.model.proofs.Left.{refused_changes_nothing}
-use Rattle.model.proofs.Lookups.{not_then_false}
 use Rattle.model.proofs.OtherReasons.{reason_not}
 use Rattle.model.proofs.Stands.{call_stands, named_row}
 use Rattle.model.proofs.Twice.{GlobalVar, fixed_twice}
 
 -- ---- resolution keeps what the test of an object reads
 module _ (f : Extern → Extern) (kept : (x : Extern) → Kept x (f x)) where
-  all_map : (p : Extern → Bool) → ((x : Extern) → p (f x) ≡ p x) → (xs : List Extern) → all p (map f xs) ≡ all p xs
+  all_map : (p : Extern → Bool) → ((x : Extern) → p (f x) ≡ p x) → (xs : List Extern) → list_all p (map f xs) ≡ list_all p xs
   all_map p h [] = refl
   all_map p h (x ∷ xs) = λ i. h x i && all_map p h xs i
 
-  any_map : (p q : Extern → Bool) → ((x : Extern) → p (f x) ≡ q x) → (xs : List Extern) → any p (map f xs) ≡ any q xs
+  any_map : (p q : Extern → Bool) → ((x : Extern) → p (f x) ≡ q x) → (xs : List Extern) → list_any p (map f xs) ≡ list_any q xs
   any_map p q h [] = refl
   any_map p q h (x ∷ xs) = λ i. h x i || any_map p q h xs i
 
@@ -47,17 +47,13 @@ module _ (f : Extern → Extern) (kept : (x : Extern) → Kept x (f x)) where
       λ i. not (any_map (λ y. bytes_eq y.name (f x).name) (λ y. bytes_eq y.name x.name) (λ y j. bytes_eq (kept_name (kept y) j) (kept_name (kept x) j)) xs i) && distinct_map xs i
 
   externs_map : (t : Tables) (xs : List Extern) → externs_fit t (map f xs) ≡ externs_fit t xs
-  externs_map t xs =
-      λ i. all_map (λ x. declares t x.entry && reads_as (name_at t.strings x.place) x.name)
-      (λ x j. declares t ((kept x).row j).entry && reads_as (name_at t.strings ((kept x).row j).place) ((kept x).row j).name) xs i
-      && distinct_map xs i
+  externs_map t xs = search (rules, all_map, distinct_map)
 
   collected_map : (o : Object) (xs : List Extern) → o.externs ≡ xs → collected_if_any (record { tables = o.tables; externs = map f o.externs; placeholder = o.placeholder }) (map f xs) ≡ collected_if_any o xs
-  collected_map o [] e = refl
-  collected_map o (x ∷ xs) e = ap (λ b. found_fits o.tables o.placeholder (section_of o.tables) && b) (externs_map o.tables o.externs)
+  collected_map o xs e = search (rules, externs_map)
 
   object_map : (o : Object) → object_fits (record { tables = o.tables; externs = map f o.externs; placeholder = o.placeholder }) ≡ object_fits o
-  object_map o = λ i. tables_fit o.tables && (leb (length-map o.externs f i) MAX_EXTERNS && collected_map o o.externs refl i)
+  object_map o = search (rules, length-map, collected_map)
 
 -- ---- what holds of an object all along a run
 pub record Sound (o : Object) : Type 0 where
@@ -87,18 +83,7 @@ runs_sound (s ∷ ss) st k = runs_sound ss (next s st) (next_sound s st k)
 
 -- ---- the laws
 pub stays_well_formed : StaysWellFormed
-stays_well_formed =
-    record {
-      object = λ st before s. (runs_sound before st (start_sound st s)).fit;
-      calls = λ st before s start.
-          let here = runs before st in
-          let fit = (runs_sound before st (start_sound st start)).fit in (
-            λ e.
-                not_then_false (brings_fit s here.code)
-                (λ b. reason_not s here (sym (cond-true (fits s here) (reason s here) (Some InvalidTable) (and_from _ _ fit b)) ∙ e)),
-            λ b. cond-false (fits s here) (reason s here) (Some InvalidTable) (and_right (object_fits here.object) _ b),
-          );
-    }
+stays_well_formed = search (rules, runs_sound, start_sound, false_from_ne_true, reason_not, and_right)
 
 pub granted_exactly_when : GrantedExactlyWhen
 granted_exactly_when st before c ls e start form =
@@ -141,18 +126,11 @@ record Room (o u : Object) : Type 0 where
   params : length u.tables.params ≡ length o.tables.params
 
 same_room : (o u : Object) → u.tables ≡ o.tables → Room o u
-same_room o u e =
-    let a = ap (λ (t : Tables). length t.types) e in
-    let b = ap (λ (t : Tables). length t.strings) e in
-    record { types = omega arith; strings = omega arith; entries = ap (λ (t : Tables). length t.entries) e; params = ap (λ (t : Tables). length t.params) e }
+same_room o u e = search rules
 
 -- an int row takes one row and its name, and the rest is rewritten in place
 int_room : (t : Tables) (o : Option ℕ) → (length (with_int o t).1.types ≤ length t.types + 1) × (length (with_int o t).1.strings ≤ length t.strings + length int_name) × ((with_int o t).1.entries ≡ t.entries) × ((with_int o t).1.params ≡ t.params)
-int_room t None =
-    let a : length (with_int None t).1.types ≡ length t.types + 1 = length-append t.types (int_row (length t.strings) ∷ []) in
-    let b : length (with_int None t).1.strings ≡ length t.strings + length int_name = length-append t.strings int_name in
-    (omega arith, omega arith, refl, refl)
-int_room t (Some i) = (omega arith, omega arith, refl, refl)
+int_room t o = grind (arith, common_steps)
 
 fixed_room : (xs : List Extern) (o : Object) → o.externs ≡ xs → object_fits o ≡ true → Room o (record { tables = fixed_for xs o.placeholder o.tables; externs = o.externs; placeholder = o.placeholder })
 fixed_room [] o e h = same_room o _ refl
@@ -173,24 +151,13 @@ abbrev Grew : Object → Object → Type 0
 Grew o u = (u.tables ≡ o.tables) ⊎ (Room o u × (fixed_for u.externs u.placeholder u.tables ≡ u.tables))
 
 fixed_map : (f : Extern → Extern) (xs : List Extern) (p : Option ℕ) (t : Tables) → fixed_for (map f xs) p t ≡ fixed_for xs p t
-fixed_map f [] p t = refl
-fixed_map f (x ∷ xs) p t = refl
+fixed_map f xs p t = search rules
 
 room_over : (o u v : Object) → u.tables ≡ o.tables → Room u v → Room o v
-room_over o u v e r =
-    let a = ap (λ (t : Tables). length t.types) e in
-    let b = ap (λ (t : Tables). length t.strings) e in
-    let c = r.types in
-    let d = r.strings in
-    record { types = omega arith; strings = omega arith; entries = r.entries ∙ ap (λ (t : Tables). length t.entries) e; params = r.params ∙ ap (λ (t : Tables). length t.params) e }
+room_over o u v e r = search rules
 
 room_on : (o u v : Object) → v.tables ≡ u.tables → Room o u → Room o v
-room_on o u v e r =
-    let a = ap (λ (t : Tables). length t.types) e in
-    let b = ap (λ (t : Tables). length t.strings) e in
-    let c = r.types in
-    let d = r.strings in
-    record { types = omega arith; strings = omega arith; entries = ap (λ (t : Tables). length t.entries) e ∙ r.entries; params = ap (λ (t : Tables). length t.params) e ∙ r.params }
+room_on o u v e r = search rules
 
 made_grew : (o : Object) (s : Step) (st : State) → Sound st.object → granted s st ≡ true → Grew o st.object → Grew o (made s st.object)
 made_grew o (resolve c ls e) st k g (inl q) = inl q

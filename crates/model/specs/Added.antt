@@ -3,6 +3,7 @@ use Rattle.std.specs.Prelude.{ℕ, ◌+◌, ◌*◌, ◌^◌, Bool, true, ◌&&�
 use Rattle.model.specs.BtfNumbers.{INT_INFO, INT_DATA, VAR_INFO, BTF_VAR_GLOBAL, ROW_BYTES}
 use Rattle.model.specs.Kinds.{is_int}
 use Rattle.model.specs.Lists.{lookup, number_of}
+use Rattle.model.specs.Spans.{no_parts}
 use Rattle.model.specs.Tables.{Tables, MAX_ROWS, MAX_NAMES}
 use Rattle.model.specs.declared.btf.BtfKind.TheVariants as kinds
 use Rattle.model.specs.declared.btf.BtfType.{BtfType}
@@ -10,11 +11,11 @@ use Rattle.model.specs.declared.btf.BtfType.{BtfType}
 -- ---- the rows, each with the offset of its name
 -- an Int of four bytes, signed
 abbrev pub int_row : ℕ → BtfType
-int_row name = record { kind = kinds.Int; name_offset = name; info = INT_INFO; size_or_type = 4; «data» = INT_DATA; start = 0; len = 0 }
+int_row name = record { kind = kinds.Int; name_offset = name; info = INT_INFO; size_or_type = 4; «data» = INT_DATA; parts = no_parts }
 
 -- a global Var of that type
 abbrev pub placeholder_row : ℕ → ℕ → BtfType
-placeholder_row int name = record { kind = kinds.Var; name_offset = name; info = VAR_INFO; size_or_type = int; «data» = BTF_VAR_GLOBAL; start = 0; len = 0 }
+placeholder_row int name = record { kind = kinds.Var; name_offset = name; info = VAR_INFO; size_or_type = int; «data» = BTF_VAR_GLOBAL; parts = no_parts }
 
 abbrev pub int_name : List ℕ
 int_name = codes "int\0"
@@ -25,10 +26,8 @@ placeholder_name = codes "ksym_func_placeholder\0"
 -- ---- the tables with one row more, whose name is added to the strings
 abbrev pub added : (ℕ → BtfType) → List ℕ → Tables → Tables
 added row name t =
-    record {
+    record t {
       types = t.types ++ row (length t.strings) ∷ [];
-      entries = t.entries;
-      params = t.params;
       strings = t.strings ++ name;
       header = record { type_len = t.header.type_len + ROW_BYTES; str_off = t.header.str_off + ROW_BYTES; str_len = length (t.strings ++ name) };
     }

@@ -15,6 +15,7 @@ use Rattle.model.specs.Resolve.{left_unread}
 use Rattle.model.specs.Runs.{State, Step, refusal, answer, answers, next, runs}
 use Rattle.model.specs.Runs.Step.{resolve, fixup, relocate}
 use Rattle.model.specs.Slots.{slots, slot_bytes, slots_bytes, dst_reg, src_reg}
+use Rattle.model.specs.Spans.{no_parts}
 use Rattle.model.specs.Tables.{Tables, Symbols, Catalogue}
 use Rattle.model.specs.declared.btf.BtfHeader.{BtfHeader}
 use Rattle.model.specs.declared.btf.BtfKind.{BtfKind}
@@ -34,13 +35,17 @@ use Rattle.model.specs.declared.rows.Span.{Span}
 use Rattle.model.specs.declared.rows.Symbol.{Symbol}
 use Rattle.model.specs.declared.rows.SymbolKind.TheVariants as symbol_kinds
 
+-- so many rows of a table from one on
+abbrev pub span : ℕ → ℕ → Span
+span start len = record { start = start; len = len }
+
 -- ---- the probe's types
--- a row with a name, a type or size and the span of its parts
-abbrev pub row : BtfKind → ℕ → ℕ → ℕ → BtfType
-row kind name link len = record { kind = kind; name_offset = name; info = 0; size_or_type = link; «data» = 0; start = 0; len = len }
+-- a row with a name, a type or size and its parts
+abbrev pub row : BtfKind → ℕ → ℕ → Span → BtfType
+row kind name link parts = record { kind = kind; name_offset = name; info = 0; size_or_type = link; «data» = 0; parts = parts }
 
 abbrev pub alias : ℕ → BtfType
-alias to = row kinds.Const 0 to 0
+alias to = row kinds.Const 0 to no_parts
 
 -- n aliases from row 0 on, each of the next row, and an Int
 abbrev pub aliases : ℕ → List BtfType
@@ -52,15 +57,23 @@ entry id = record { btf_type = id; offset = 7; size = 7 }
 abbrev pub strings : List ℕ
 strings = codes "\0.ksyms\0card_q\0probe___v2\0"
 
+-- the function probe___v2 with that info
+abbrev pub probe_func : ℕ → BtfType
+probe_func info = record (row kinds.Func 15 4 no_parts) { info = info }
+
+-- the variable card_q once it is global, of an int row
+abbrev pub global_card : ℕ → BtfType
+global_card int = record (row kinds.Var 8 int no_parts) { «data» = 1 }
+
 -- the section of these entries, the variable card_q of a type, the function probe___v2 and its parameters, and one more row
 abbrev pub tables : List DataSecEntry → ℕ → BtfType → Tables
 tables es void more =
     record {
       types = no_row
-          ∷ row kinds.DataSec 1 9 (length es)
-          ∷ row kinds.Var 8 void 0
-          ∷ record { kind = kinds.Func; name_offset = 15; info = 201326594; size_or_type = 4; «data» = 0; start = 0; len = 0 }
-          ∷ row kinds.FuncProto 0 0 3
+          ∷ row kinds.DataSec 1 9 (span 0 (length es))
+          ∷ row kinds.Var 8 void no_parts
+          ∷ probe_func 201326594
+          ∷ row kinds.FuncProto 0 0 (span 0 3)
           ∷ more
           ∷ [];
       entries = es;
@@ -71,7 +84,7 @@ tables es void more =
 
 -- an Int of size 8
 abbrev pub long : BtfType
-long = record { kind = kinds.Int; name_offset = 0; info = 16777216; size_or_type = 8; «data» = 64; start = 0; len = 0 }
+long = record (row kinds.Int 0 8 no_parts) { info = 16777216; «data» = 64 }
 
 abbrev pub both : List DataSecEntry
 both = entry 2 ∷ entry 3 ∷ []
@@ -84,13 +97,13 @@ abbrev pub symbol : ℕ → Option Span → Bool → Symbol
 symbol index name weak = record { index = index; name = name; section = None; is_definition = false; kind = symbol_kinds.Unknown; is_weak = weak }
 
 abbrev pub card_name : Span
-card_name = record { start = 0; len = 6 }
+card_name = span 0 6
 
 abbrev pub probe_name : Span
-probe_name = record { start = 6; len = 10 }
+probe_name = span 6 10
 
 abbrev pub other_name : Span
-other_name = record { start = 1; len = 3 }
+other_name = span 1 3
 
 abbrev pub symbol_names : List ℕ
 symbol_names = codes "card_qprobe___v2"
@@ -102,9 +115,9 @@ symbols =
           ∷ symbol 3 (Some probe_name) true
           ∷ symbol 4 None false
           ∷ symbol 5 (Some other_name) false
-          ∷ record { index = 6; name = Some card_name; section = Some 1; is_definition = false; kind = symbol_kinds.Unknown; is_weak = false }
-          ∷ record { index = 7; name = Some card_name; section = None; is_definition = true; kind = symbol_kinds.Unknown; is_weak = false }
-          ∷ record { index = 8; name = Some card_name; section = None; is_definition = false; kind = symbol_kinds.Data; is_weak = false }
+          ∷ record (symbol 6 (Some card_name) false) { section = Some 1 }
+          ∷ record (symbol 7 (Some card_name) false) { is_definition = true }
+          ∷ record (symbol 8 (Some card_name) false) { kind = symbol_kinds.Data }
           ∷ symbol 145483648 (Some probe_name) false
           ∷ [];
       names = symbol_names;
@@ -124,8 +137,8 @@ abbrev pub collected : Object
 collected =
     record {
       tables = record {
-        types = probe.types ++ (record { kind = kinds.Int; name_offset = 26; info = 16777216; size_or_type = 4; «data» = 16777248; start = 0; len = 0 }
-            ∷ record { kind = kinds.Var; name_offset = 30; info = 234881024; size_or_type = 6; «data» = 1; start = 0; len = 0 }
+        types = probe.types ++ (record (row kinds.Int 26 4 no_parts) { info = 16777216; «data» = 16777248 }
+            ∷ record (row kinds.Var 30 6 no_parts) { info = 234881024; «data» = 1 }
             ∷ []);
         entries = probe.entries;
         params = probe.params;
@@ -148,26 +161,26 @@ start = record { object = collected; code = code }
 
 -- with other externs
 abbrev pub with_externs : List Extern → State
-with_externs xs = record { object = record { tables = collected.tables; externs = xs; placeholder = Some 7 }; code = code }
+with_externs xs = record start { object = record collected { externs = xs } }
 
 abbrev pub strong_probe : Extern
-strong_probe = record { name = codes "probe___v2"; place = 15; entry = 3; func = true; typed = Some 4; weak = false; resolved = false; id = None; address = None }
+strong_probe = record weak_probe { weak = false }
 
 abbrev pub weak_card : Extern
-weak_card = record { name = codes "card_q"; place = 8; entry = 2; func = false; typed = None; weak = true; resolved = false; id = None; address = None }
+weak_card = record card { weak = true }
 
 abbrev pub typed_card : Extern
-typed_card = record { name = codes "card_q"; place = 8; entry = 2; func = false; typed = Some 5; weak = false; resolved = false; id = None; address = None }
+typed_card = record card { typed = Some 5 }
 
 -- typeless variables with the other name, and one that is resolved
 abbrev pub weak_other : Extern
-weak_other = record { name = codes "probe___v2"; place = 15; entry = 3; func = false; typed = None; weak = true; resolved = false; id = None; address = None }
+weak_other = record weak_probe { func = false; typed = None }
 
 abbrev pub found_card : Extern
-found_card = record { name = codes "card_q"; place = 8; entry = 2; func = false; typed = None; weak = false; resolved = true; id = None; address = Some 160 }
+found_card = record card { resolved = true; address = Some 160 }
 
 abbrev pub typed_other : Extern
-typed_other = record { name = codes "probe___v2"; place = 15; entry = 3; func = false; typed = Some 5; weak = false; resolved = false; id = None; address = None }
+typed_other = record weak_other { typed = Some 5; weak = false }
 
 -- ---- calls
 abbrev pub reading : List (List ℕ) → Step
@@ -175,7 +188,7 @@ reading ls = resolve None ls Clean
 
 -- a catalogue of one row
 abbrev pub catalogue : List ℕ → CatalogueKind → Bool → Option Catalogue
-catalogue name kind fits = Some (record { rows = record { name = record { start = 0; len = length name }; kind = kind; id = 77; fits = fits } ∷ []; names = name })
+catalogue name kind fits = Some (record { rows = record { name = span 0 (length name); kind = kind; id = 77; fits = fits } ∷ []; names = name })
 
 abbrev pub at_a0 : List ℕ
 at_a0 = codes "a0 d card_q"
@@ -189,7 +202,7 @@ at_zero = codes "0 d card_q"
 -- relocations of one function of n slots that begins at byte 16 of section 5
 abbrev pub relocating : ℕ → List Relocation → Step
 relocating n rs =
-    relocate (record { functions = record { section = 5; address = 0; section_offset = 16; start = 0; len = n } ∷ []; relocations = rs; symbols = symbols })
+    relocate (record { functions = record { section = 5; address = 0; section_offset = 16; slots = span 0 n } ∷ []; relocations = rs; symbols = symbols })
 
 abbrev pub at : ℕ → ℕ → Relocation
 at offset symbol = record { section = 5; offset = offset; symbol = symbol }
@@ -204,7 +217,7 @@ code_after ss st = slots (runs ss st).code
 abbrev pub relocating_two : List Relocation → Step
 relocating_two rs =
     relocate (record {
-      functions = record { section = 5; address = 0; section_offset = 16; start = 0; len = 2 } ∷ record { section = 5; address = 16; section_offset = 32; start = 2; len = 2 } ∷ [];
+      functions = record { section = 5; address = 0; section_offset = 16; slots = span 0 2 } ∷ record { section = 5; address = 16; section_offset = 32; slots = span 2 2 } ∷ [];
       relocations = rs;
       symbols = symbols;
     })
@@ -213,7 +226,7 @@ relocating_two rs =
 abbrev pub two_rows : Option Catalogue
 two_rows =
     Some (record {
-      rows = record { name = record { start = 0; len = 5 }; kind = catalogued.Func; id = 77; fits = true } ∷ record { name = record { start = 0; len = 5 }; kind = catalogued.Func; id = 78; fits = true } ∷ [];
+      rows = record { name = span 0 5; kind = catalogued.Func; id = 77; fits = true } ∷ record { name = span 0 5; kind = catalogued.Func; id = 78; fits = true } ∷ [];
       names = codes "probe";
     })
 
@@ -222,10 +235,10 @@ abbrev pub sections : Tables
 sections =
     record {
       types = no_row
-          ∷ row kinds.DataSec 8 0 1
-          ∷ record { kind = kinds.DataSec; name_offset = 1; info = 0; size_or_type = 0; «data» = 0; start = 1; len = 2 }
-          ∷ record { kind = kinds.DataSec; name_offset = 1; info = 0; size_or_type = 0; «data» = 0; start = 3; len = 1 }
-          ∷ row kinds.Var 8 0 0
+          ∷ row kinds.DataSec 8 0 (span 0 1)
+          ∷ row kinds.DataSec 1 0 (span 1 2)
+          ∷ row kinds.DataSec 1 0 (span 3 1)
+          ∷ row kinds.Var 8 0 no_parts
           ∷ [];
       entries = entry 9 ∷ entry 4 ∷ entry 8 ∷ entry 7 ∷ [];
       params = [];
@@ -240,10 +253,10 @@ func_of type =
       object = record {
         tables = record {
           types = no_row
-              ∷ row kinds.DataSec 1 0 1
-              ∷ row kinds.Func 15 type 0
-              ∷ row kinds.FuncProto 0 0 1
-              ∷ record { kind = kinds.FuncProto; name_offset = 0; info = 0; size_or_type = 0; «data» = 0; start = 1; len = 1 }
+              ∷ row kinds.DataSec 1 0 (span 0 1)
+              ∷ row kinds.Func 15 type no_parts
+              ∷ row kinds.FuncProto 0 0 (span 0 1)
+              ∷ row kinds.FuncProto 0 0 (span 1 1)
               ∷ int_row 0
               ∷ placeholder_row 5 8
               ∷ [];
@@ -252,7 +265,7 @@ func_of type =
           strings = strings;
           header = record { type_len = 0; str_off = 0; str_len = 26 };
         };
-        externs = record { name = codes "probe___v2"; place = 15; entry = 2; func = true; typed = Some type; weak = true; resolved = false; id = None; address = None } ∷ [];
+        externs = record weak_probe { entry = 2; typed = Some type } ∷ [];
         placeholder = Some 6;
       };
       code = [];
@@ -264,9 +277,16 @@ unnamed_param = record { name_offset = 0; btf_type = 5 }
 abbrev pub named_param : BtfParam
 named_param = record { name_offset = 8; btf_type = 5 }
 
--- an object of one variable and no function, with one more type row
-abbrev pub only_card : BtfType → State
-only_card more = record { object = record { tables = tables (entry 2 ∷ []) 0 more; externs = card ∷ []; placeholder = None }; code = code }
+abbrev pub without_externs : Tables → Object
+without_externs t = record { tables = t; externs = []; placeholder = None }
+
+-- an object of the variable and no function
+abbrev pub with_card : Tables → State
+with_card t = record { object = record { tables = t; externs = card ∷ []; placeholder = None }; code = code }
+
+-- the section of one entry, its variable, with one more type row
+abbrev pub one_card : BtfType → Tables
+one_card more = tables (entry 2 ∷ []) 0 more
 
 -- its tables after a fixup with that int row, types at the end and strings at the end
 abbrev pub card_fixed : ℕ → BtfType → List BtfType → List ℕ → BtfHeader → Object
@@ -274,10 +294,10 @@ card_fixed int more types more_strings header =
     record {
       tables = record {
         types = no_row
-            ∷ row kinds.DataSec 1 4 1
-            ∷ record { kind = kinds.Var; name_offset = 8; info = 0; size_or_type = int; «data» = 1; start = 0; len = 0 }
-            ∷ record { kind = kinds.Func; name_offset = 15; info = 201326594; size_or_type = 4; «data» = 0; start = 0; len = 0 }
-            ∷ row kinds.FuncProto 0 0 3
+            ∷ row kinds.DataSec 1 4 (span 0 1)
+            ∷ global_card int
+            ∷ probe_func 201326594
+            ∷ row kinds.FuncProto 0 0 (span 0 3)
             ∷ more
             ∷ types;
         entries = record { btf_type = 2; offset = 0; size = 4 } ∷ [];
@@ -291,14 +311,13 @@ card_fixed int more types more_strings header =
 
 -- the tables, but the header
 abbrev pub with_header : ℕ → ℕ → Tables → Tables
-with_header types at t =
-    record { types = t.types; entries = t.entries; params = t.params; strings = t.strings; header = record { type_len = types; str_off = at; str_len = 26 } }
+with_header types at t = record t { header = record { type_len = types; str_off = at; str_len = 26 } }
 
 abbrev pub with_strings : List ℕ → Tables → Tables
-with_strings ss t = record { types = t.types; entries = t.entries; params = t.params; strings = ss; header = t.header }
+with_strings ss t = record t { strings = ss }
 
 abbrev pub with_types : List BtfType → Tables → Tables
-with_types ts t = record { types = ts; entries = t.entries; params = t.params; strings = t.strings; header = t.header }
+with_types ts t = record t { types = ts }
 
 pub record WorkedCases : Type 0 where
   -- chains of types
@@ -337,9 +356,9 @@ pub record WorkedCases : Type 0 where
     placeholder = Some 6;
   })
   pub collects_once : collect_object collected symbols ≡ Err InvalidTable
-  pub func_of_void : type_of (row kinds.Func 15 0 0) 0 ≡ Some 0
-  pub var_of_void : type_of (row kinds.Var 8 0 0) 0 ≡ None
-  pub no_section : collect (with_strings (codes "\0.ksymz\0card_q\0probe___v2\0") probe) no_symbols ≡ Ok (record { tables = with_strings (codes "\0.ksymz\0card_q\0probe___v2\0") probe; externs = []; placeholder = None })
+  pub func_of_void : type_of (row kinds.Func 15 0 no_parts) 0 ≡ Some 0
+  pub var_of_void : type_of (row kinds.Var 8 0 no_parts) 0 ≡ None
+  pub no_section : collect (with_strings (codes "\0.ksymz\0card_q\0probe___v2\0") probe) no_symbols ≡ Ok (without_externs (with_strings (codes "\0.ksymz\0card_q\0probe___v2\0") probe))
   pub not_void : collect (with_types (long ∷ take 1 probe.types) probe) symbols ≡ Err InvalidTable
   pub section_unnamed : collect (with_strings [] probe) symbols ≡ Err (InvalidStringOffset (Section 1))
   pub unknown_first : collect (tables (entry 2 ∷ entry 9 ∷ []) 0 long) no_symbols ≡ Err (UnknownBtfType 1)
@@ -347,7 +366,7 @@ pub record WorkedCases : Type 0 where
   pub unknown_later : collect (tables (entry 3 ∷ entry 9 ∷ []) 0 long) symbols ≡ Err (UnknownBtfType 1)
   pub first_section : collect sections symbols ≡ Err (UnknownBtfType 2)
   pub neither : collect (tables (entry 4 ∷ []) 0 long) symbols ≡ Err (InvalidDatasec 0)
-  pub unnamed : collect (with_strings (codes "\0.ksyms\0card_q") (tables (entry 2 ∷ []) 0 long)) no_symbols ≡ Err (InvalidStringOffset (Entry 0))
+  pub unnamed : collect (with_strings (codes "\0.ksyms\0card_q") (one_card long)) no_symbols ≡ Err (InvalidStringOffset (Entry 0))
   pub no_symbol : collect (tables (entry 2 ∷ []) 5 (alias 5)) no_symbols ≡ Err (InvalidSymbolName 0)
   pub too_deep : collect (tables (entry 2 ∷ []) 5 (alias 5)) symbols ≡ Err (MaximumTypeDepthReached 0)
   pub chain_unknown : collect (tables (entry 2 ∷ []) 6 long) symbols ≡ Err (UnknownBtfType 0)
@@ -362,31 +381,31 @@ pub record WorkedCases : Type 0 where
   pub zero_first : answer (reading (at_zero ∷ at_a0 ∷ [])) start ≡ Ok tt
   pub first_address : address_of (codes "card_q") (next (reading (at_zero ∷ at_a0 ∷ [])) start) ≡ Some 160
   pub weak_zero : address_of (codes "probe___v2") (next (reading (at_a0 ∷ [])) start) ≡ Some 0
-  pub clash : answer (reading (codes "zz d other" ∷ codes "short" ∷ at_a0 ∷ at_b0 ∷ [])) start ≡ Err (record { call = made_by.Resolve; reason = AmbiguousResolution 0 (record { start = 8; len = 6 }) 4 160 176 })
+  pub clash : answer (reading (codes "zz d other" ∷ codes "short" ∷ at_a0 ∷ at_b0 ∷ [])) start ≡ Err (record { call = made_by.Resolve; reason = AmbiguousResolution 0 (span 8 6) 4 160 176 })
   pub clash_again : answers (reading (at_a0 ∷ at_b0 ∷ []) ∷ reading (at_a0 ∷ at_b0 ∷ []) ∷ []) start
-      ≡ Err (record { call = made_by.Resolve; reason = AmbiguousResolution 0 (record { start = 8; len = 6 }) 2 160 176 }) ∷ Err (record { call = made_by.Resolve; reason = AmbiguousResolution 0 (record { start = 8; len = 6 }) 2 160 176 }) ∷ []
+      ≡ Err (record { call = made_by.Resolve; reason = AmbiguousResolution 0 (span 8 6) 2 160 176 }) ∷ Err (record { call = made_by.Resolve; reason = AmbiguousResolution 0 (span 8 6) 2 160 176 }) ∷ []
   pub clash_keeps : next (reading (at_a0 ∷ at_b0 ∷ [])) start ≡ start
   pub equal_again : answer (reading (at_a0 ∷ at_zero ∷ at_a0 ∷ [])) start ≡ Ok tt
   pub unread : refusal (reading (at_a0 ∷ codes "zz d card_q" ∷ [])) start ≡ Some (KallsymsParseError 0 2)
   pub unwanted : answer (reading (at_a0 ∷ codes "zz d other" ∷ [])) start ≡ Ok tt
   pub fault : refusal (resolve None (at_a0 ∷ []) (Broken (LineTooLong 2))) start ≡ Some (KallsymsAccessError (LineTooLong 2))
-  pub clash_before_fault : refusal (resolve None (at_a0 ∷ at_b0 ∷ []) (Broken (LineTooLong 3))) start ≡ Some (AmbiguousResolution 0 (record { start = 8; len = 6 }) 2 160 176)
+  pub clash_before_fault : refusal (resolve None (at_a0 ∷ at_b0 ∷ []) (Broken (LineTooLong 3))) start ≡ Some (AmbiguousResolution 0 (span 8 6) 2 160 176)
   pub fault_before_missing : refusal (resolve None [] (Broken (LineTooLong 1))) start ≡ Some (KallsymsAccessError (LineTooLong 1))
-  pub only_zero : refusal (reading (at_zero ∷ [])) start ≡ Some (VariableNotFound 0 (record { start = 8; len = 6 }))
+  pub only_zero : refusal (reading (at_zero ∷ [])) start ≡ Some (VariableNotFound 0 (span 8 6))
   pub not_read_again : answers (reading (at_a0 ∷ []) ∷ resolve None (at_a0 ∷ at_b0 ∷ []) (Broken (LineTooLong 3)) ∷ []) start ≡ Ok tt ∷ Ok tt ∷ []
   pub kept : address_of (codes "card_q") (runs (reading (at_a0 ∷ []) ∷ reading (at_b0 ∷ []) ∷ []) start) ≡ Some 160
   pub weak_missing : answer (reading []) (with_externs (weak_card ∷ [])) ≡ Ok tt
   pub weak_later : address_of (codes "card_q") (runs (reading [] ∷ reading (at_a0 ∷ []) ∷ []) (with_externs (weak_card ∷ []))) ≡ Some 160
   pub typed_first : refusal (resolve None [] (Broken (LineTooLong 1))) (with_externs (card ∷ strong_probe ∷ [])) ≡ Some (TypedKsymRequiresKernelBtf 1)
-  pub no_function : refusal (resolve (catalogue (codes "probe") catalogued.Var true) (at_a0 ∷ []) Clean) (with_externs (strong_probe ∷ [])) ≡ Some (FunctionNotFound 0 (record { start = 15; len = 5 }))
-  pub whole_name_not_found : refusal (resolve (catalogue (codes "probe___v2") catalogued.Func true) [] Clean) (with_externs (strong_probe ∷ [])) ≡ Some (FunctionNotFound 0 (record { start = 15; len = 5 }))
-  pub unfit_function : refusal (resolve (catalogue (codes "probe") catalogued.Func false) [] Clean) (with_externs (strong_probe ∷ [])) ≡ Some (IncompatibleFunctionSignature 0 (record { start = 15; len = 5 }))
-  pub no_variable : refusal (resolve (catalogue (codes "card") catalogued.Var true) [] Clean) (with_externs (typed_card ∷ [])) ≡ Some (VariableNotFound 0 (record { start = 8; len = 6 }))
-  pub unfit_variable : refusal (resolve (catalogue (codes "card_q") catalogued.Var false) [] Clean) (with_externs (typed_card ∷ [])) ≡ Some (IncompatibleVariableType 0 (record { start = 8; len = 6 }))
+  pub no_function : refusal (resolve (catalogue (codes "probe") catalogued.Var true) (at_a0 ∷ []) Clean) (with_externs (strong_probe ∷ [])) ≡ Some (FunctionNotFound 0 (span 15 5))
+  pub whole_name_not_found : refusal (resolve (catalogue (codes "probe___v2") catalogued.Func true) [] Clean) (with_externs (strong_probe ∷ [])) ≡ Some (FunctionNotFound 0 (span 15 5))
+  pub unfit_function : refusal (resolve (catalogue (codes "probe") catalogued.Func false) [] Clean) (with_externs (strong_probe ∷ [])) ≡ Some (IncompatibleFunctionSignature 0 (span 15 5))
+  pub no_variable : refusal (resolve (catalogue (codes "card") catalogued.Var true) [] Clean) (with_externs (typed_card ∷ [])) ≡ Some (VariableNotFound 0 (span 8 6))
+  pub unfit_variable : refusal (resolve (catalogue (codes "card_q") catalogued.Var false) [] Clean) (with_externs (typed_card ∷ [])) ≡ Some (IncompatibleVariableType 0 (span 8 6))
   pub variable_by_whole_name : refusal (resolve (catalogue (codes "probe___v2") catalogued.Var true) [] Clean) (with_externs (typed_other ∷ [])) ≡ None
-  pub unfit_not_taken : (next (resolve (catalogue (codes "probe") catalogued.Func false) [] Clean) (with_externs (weak_probe ∷ []))).object.externs ≡ record { name = codes "probe___v2"; place = 15; entry = 3; func = true; typed = Some 4; weak = true; resolved = false; id = None; address = Some 0 } ∷ []
+  pub unfit_not_taken : (next (resolve (catalogue (codes "probe") catalogued.Func false) [] Clean) (with_externs (weak_probe ∷ []))).object.externs ≡ record weak_probe { address = Some 0 } ∷ []
   pub resolved_not_judged : refusal (reading (at_a0 ∷ at_b0 ∷ [])) (with_externs (found_card ∷ weak_other ∷ [])) ≡ None
-  pub bad_catalogue : refusal (resolve (Some (record { rows = record { name = record { start = 1; len = 1 }; kind = catalogued.Var; id = 0; fits = true } ∷ []; names = 0 ∷ [] })) [] Clean) start ≡ Some InvalidTable
+  pub bad_catalogue : refusal (resolve (Some (record { rows = record { name = span 1 1; kind = catalogued.Var; id = 0; fits = true } ∷ []; names = 0 ∷ [] })) [] Clean) start ≡ Some InvalidTable
   pub left_over : left_unread None (at_a0 ∷ at_b0 ∷ at_zero ∷ []) (card ∷ []) ≡ at_zero ∷ []
   pub all_read : left_unread None (at_a0 ∷ at_zero ∷ []) (card ∷ []) ≡ []
   pub none_read : left_unread None (at_a0 ∷ []) (weak_probe ∷ []) ≡ at_a0 ∷ []
@@ -398,18 +417,18 @@ pub record WorkedCases : Type 0 where
   pub params_of_another : (next fixup (func_of 3)).object.tables.params ≡ named_param ∷ unnamed_param ∷ []
   pub params_of_no_proto : (next fixup (func_of 1)).object.tables.params ≡ unnamed_param ∷ unnamed_param ∷ []
   pub fix_tables_first : answer fixup (with_externs (card ∷ card ∷ [])) ≡ Err (record { call = made_by.Fixup; reason = InvalidTable })
-  pub adds_an_int : (next fixup (only_card long)).object ≡ card_fixed 6 long (int_row 26 ∷ []) (codes "int\0") (record { type_len = 176; str_off = 176; str_len = 30 })
-  pub takes_the_int : (next fixup (only_card (int_row 0))).object ≡ card_fixed 5 (int_row 0) [] [] (record { type_len = 160; str_off = 160; str_len = 26 })
-  pub no_room_for_an_int : refusal fixup (record { object = record { tables = with_header 4294967280 0 (tables (entry 2 ∷ []) 0 long); externs = card ∷ []; placeholder = None }; code = [] }) ≡ Some NoRoom
-  pub room_for_an_int : refusal fixup (record { object = record { tables = with_header 4294967279 0 (tables (entry 2 ∷ []) 0 long); externs = card ∷ []; placeholder = None }; code = [] }) ≡ None
-  pub no_externs : next fixup (record { object = record { tables = probe; externs = []; placeholder = None }; code = [] }) ≡ record { object = record { tables = probe; externs = []; placeholder = None }; code = [] }
+  pub adds_an_int : (next fixup (with_card (one_card long))).object ≡ card_fixed 6 long (int_row 26 ∷ []) (codes "int\0") (record { type_len = 176; str_off = 176; str_len = 30 })
+  pub takes_the_int : (next fixup (with_card (one_card (int_row 0)))).object ≡ card_fixed 5 (int_row 0) [] [] (record { type_len = 160; str_off = 160; str_len = 26 })
+  pub no_room_for_an_int : refusal fixup (with_card (with_header 4294967280 0 (one_card long))) ≡ Some NoRoom
+  pub room_for_an_int : refusal fixup (with_card (with_header 4294967279 0 (one_card long))) ≡ None
+  pub no_externs : next fixup (record { object = without_externs probe; code = code }) ≡ record { object = without_externs probe; code = code }
   pub fixes : (next fixup start).object ≡ record {
     tables = record {
       types = no_row
-          ∷ row kinds.DataSec 1 8 2
-          ∷ record { kind = kinds.Var; name_offset = 8; info = 0; size_or_type = 6; «data» = 1; start = 0; len = 0 }
-          ∷ record { kind = kinds.Func; name_offset = 15; info = 201326593; size_or_type = 4; «data» = 0; start = 0; len = 0 }
-          ∷ row kinds.FuncProto 0 0 3
+          ∷ row kinds.DataSec 1 8 (span 0 2)
+          ∷ global_card 6
+          ∷ probe_func 201326593
+          ∷ row kinds.FuncProto 0 0 (span 0 3)
           ∷ long
           ∷ int_row 26
           ∷ placeholder_row 6 30
@@ -456,7 +475,7 @@ pub record WorkedCases : Type 0 where
   pub skips_another_kind : answer (relocating 4 (at 24 8 ∷ [])) start ≡ Ok tt
   pub no_extern : refusal (relocating 4 (at 24 5 ∷ [])) start ≡ Some (ExternNotFound 0 other_name)
   pub neither_call_nor_load : refusal (relocating 4 (at 24 2 ∷ [])) start ≡ Some (InvalidRelocationOffset 0)
-  pub without_id : (runs (reading (at_a0 ∷ []) ∷ []) start).object.externs ≡ record { name = codes "card_q"; place = 8; entry = 2; func = false; typed = None; weak = false; resolved = true; id = None; address = Some 160 } ∷ record { name = codes "probe___v2"; place = 15; entry = 3; func = true; typed = Some 4; weak = true; resolved = false; id = None; address = Some 0 } ∷ []
+  pub without_id : (runs (reading (at_a0 ∷ []) ∷ []) start).object.externs ≡ found_card ∷ record weak_probe { address = Some 0 } ∷ []
   pub call_without_id : refusal (relocating 4 (at 32 2 ∷ [])) (runs (reading (at_a0 ∷ []) ∷ []) start) ≡ Some (ExternWithoutId 0 card_name)
   pub unresolved_load : refusal (relocating 4 (at 40 2 ∷ [])) start ≡ Some (UnresolvableSymbol 0 card_name)
   pub unresolved_call : refusal (relocating 4 (at 32 2 ∷ [])) start ≡ Some (UnresolvableSymbol 0 card_name)

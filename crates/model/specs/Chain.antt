@@ -1,6 +1,7 @@
 -- The end of a chain of types. Assumes nothing.
 use Rattle.std.specs.Prelude.{ℕ, zero, suc, cond, List, length, Ok, Err, Result, nat_lt, slice_index_or}
 use Rattle.model.specs.Kinds.{passes_on}
+use Rattle.model.specs.Spans.{no_parts}
 use Rattle.model.specs.declared.btf.BtfKind.TheVariants as kinds
 use Rattle.model.specs.declared.btf.BtfType.{BtfType}
 use Rattle.model.specs.declared.btf.ChainError.{ChainError}
@@ -8,7 +9,7 @@ use Rattle.model.specs.declared.btf.ChainError.TheVariants.{UnknownBtfType, Maxi
 
 -- what stands for a row that is not there
 abbrev pub no_row : BtfType
-no_row = record { kind = kinds.Unknown; name_offset = 0; info = 0; size_or_type = 0; «data» = 0; start = 0; len = 0 }
+no_row = record { kind = kinds.Unknown; name_offset = 0; info = 0; size_or_type = 0; «data» = 0; parts = no_parts }
 
 abbrev pub type_at : List BtfType → ℕ → BtfType
 type_at ts id = slice_index_or ts id no_row

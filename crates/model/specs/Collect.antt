@@ -1,12 +1,15 @@
 -- What collection answers and makes. Assumes nothing.
-use Rattle.std.specs.Prelude.{ℕ, suc, Bool, true, false, cond, ◌&&◌, ◌||◌, List, [], ◌∷◌, length, take, drop, Some, None, Ok, Err, codes, Option, Result, ◌==◌, nat_le, nat_lt}
+use Rattle.std.specs.Prelude.{ℕ, suc, Bool, true, false, cond, ◌&&◌, ◌||◌, List, [], ◌∷◌, length, Some, None, Ok, Err, codes, Option, Result, ◌==◌, nat_le, nat_lt}
+use Rattle.std.specs.Option.{option_or}
+use Rattle.std.specs.List.{list_any}
 use Rattle.std.specs.Str.{bytes_eq}
 use Rattle.model.specs.Added.{first_int, with_int, with_placeholder, room_for_placeholder}
 use Rattle.model.specs.Chain.{type_at, resolve_type}
 use Rattle.model.specs.Externs.{Extern, Object}
 use Rattle.model.specs.Kinds.{is_func, is_var, is_data_sec}
-use Rattle.model.specs.Lists.{any, lookup, or_else, each}
+use Rattle.model.specs.Lists.{lookup, each}
 use Rattle.model.specs.Names.{name_at, reads_as}
+use Rattle.model.specs.Spans.{part}
 use Rattle.model.specs.Tables.{Tables, Symbols, MAX_EXTERNS, tables_fit, symbols_fit, symbol_name}
 use Rattle.model.specs.declared.btf.BtfType.{BtfType}
 use Rattle.model.specs.declared.btf.DataSecEntry.{DataSecEntry}
@@ -31,7 +34,7 @@ section_of t = section_from t.strings 0 t.types
 
 -- its entries
 abbrev pub entries_of : Tables → ℕ → List DataSecEntry
-entries_of t d = take (type_at t.types d).len (drop (type_at t.types d).start t.entries)
+entries_of t d = part t.entries (type_at t.types d).parts
 
 -- whether one of the entries is a Func; each id up to the first Func must be a row
 abbrev pub has_func : List BtfType → ℕ → List DataSecEntry → Result Bool Reason
@@ -94,7 +97,7 @@ entry_read t ss n e =
 -- ---- what is tested last: a name that an earlier entry has, and then the room
 abbrev pub duplicate : List Extern → ℕ → List Extern → Option Reason
 duplicate before n [] = None
-duplicate before n (x ∷ xs) = cond (any (λ y. bytes_eq y.name x.name) before) (Some (DuplicateName n)) (duplicate (x ∷ before) (suc n) xs)
+duplicate before n (x ∷ xs) = cond (list_any (λ y. bytes_eq y.name x.name) before) (Some (DuplicateName n)) (duplicate (x ∷ before) (suc n) xs)
 
 abbrev pub room_for_func : Bool → Tables → Bool
 room_for_func false t = true
@@ -117,7 +120,7 @@ granted_unless (Some e) o = Err e
 
 abbrev pub collect_rows : Tables → ℕ → Bool → Result (List Extern) Reason → Result Object Reason
 collect_rows t n func (Err e) = Err e
-collect_rows t n func (Ok xs) = granted_unless (or_else (duplicate [] n xs) (room_refusal func xs t)) (made func xs t)
+collect_rows t n func (Ok xs) = granted_unless (option_or (duplicate [] n xs) (room_refusal func xs t)) (made func xs t)
 
 abbrev pub collect_entries : Tables → Symbols → ℕ → List DataSecEntry → Result Bool Reason → Result Object Reason
 collect_entries t ss n es (Err e) = Err e
@@ -127,7 +130,7 @@ abbrev pub collect_section : Tables → Symbols → Result (Option ℕ) Reason �
 collect_section t ss (Err e) = Err e
 collect_section t ss (Ok None) = Ok (made false [] t)
 collect_section t ss (Ok (Some d)) =
-    let n = (type_at t.types d).start in
+    let n = (type_at t.types d).parts.start in
     collect_entries t ss n (entries_of t d) (has_func t.types n (entries_of t d))
 
 -- collection of the tables of an object without externs

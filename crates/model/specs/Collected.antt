@@ -1,11 +1,12 @@
 -- What holds of an object once it is collected. Assumes nothing.
 use Rattle.std.specs.Prelude.{◌≡◌, ℕ, Bool, true, false, not, ◌&&◌, ◌||◌, List, [], ◌∷◌, length, is_some, Some, None, Ok, Err, Option, Result, ◌≢◌, nat_le, nat_lt}
+use Rattle.std.specs.List.{list_any, list_all}
 use Rattle.std.specs.Str.{bytes_eq}
 use Rattle.model.specs.Chain.{type_at}
 use Rattle.model.specs.Collect.{section_of, entries_of}
 use Rattle.model.specs.Externs.{Extern, Object}
 use Rattle.model.specs.Kinds.{is_func, is_var}
-use Rattle.model.specs.Lists.{In, any, all}
+use Rattle.model.specs.Lists.{In}
 use Rattle.model.specs.Names.{name_at, reads_as}
 use Rattle.model.specs.Tables.{Tables, MAX_EXTERNS, tables_fit}
 use Rattle.model.specs.declared.btf.DataSecEntry.{DataSecEntry}
@@ -38,14 +39,14 @@ pub record Collected (o : Object) : Type 0 where
 -- ---- the same as a test
 abbrev pub distinct : List Extern → Bool
 distinct [] = true
-distinct (x ∷ xs) = not (any (λ y. bytes_eq y.name x.name) xs) && distinct xs
+distinct (x ∷ xs) = not (list_any (λ y. bytes_eq y.name x.name) xs) && distinct xs
 
 abbrev pub placeholder_fits : Tables → List DataSecEntry → Option ℕ → Bool
-placeholder_fits t es None = not (any (λ e. is_func (type_at t.types e.btf_type)) es)
+placeholder_fits t es None = not (list_any (λ e. is_func (type_at t.types e.btf_type)) es)
 placeholder_fits t es (Some p) = declares t p
 
 abbrev pub section_fits : Tables → List DataSecEntry → Option ℕ → Bool
-section_fits t es p = all (λ e. declares t e.btf_type) es && placeholder_fits t es p
+section_fits t es p = list_all (λ e. declares t e.btf_type) es && placeholder_fits t es p
 
 abbrev pub found_fits : Tables → Option ℕ → Result (Option ℕ) Reason → Bool
 found_fits t p (Err e) = false
@@ -53,7 +54,7 @@ found_fits t p (Ok None) = false
 found_fits t p (Ok (Some d)) = section_fits t (entries_of t d) p
 
 abbrev pub externs_fit : Tables → List Extern → Bool
-externs_fit t xs = all (λ x. declares t x.entry && reads_as (name_at t.strings x.place) x.name) xs && distinct xs
+externs_fit t xs = list_all (λ x. declares t x.entry && reads_as (name_at t.strings x.place) x.name) xs && distinct xs
 
 abbrev pub collected_if_any : Object → List Extern → Bool
 collected_if_any o [] = true

@@ -4,7 +4,8 @@ use Rattle.std.specs.Str.{bytes_eq}
 use Rattle.model.specs.Chain.{type_at}
 use Rattle.model.specs.Kinds.{is_func}
 use Rattle.model.specs.Lists.{lookup}
-use Rattle.model.specs.Names.{part, essential}
+use Rattle.model.specs.Names.{essential}
+use Rattle.model.specs.Spans.{part}
 use Rattle.model.specs.Tables.{Tables}
 use Rattle.model.specs.declared.rows.ExternDesc.{ExternDesc}
 use Rattle.model.specs.declared.rows.Span.{Span}
@@ -56,30 +57,8 @@ essential_name x = record { start = x.place; len = length (essential x.name) }
 
 -- the extern, resolved to an id and an address
 abbrev pub resolved_to : Option ℕ → Option ℕ → Extern → Extern
-resolved_to i a x =
-    record {
-      name = x.name;
-      place = x.place;
-      entry = x.entry;
-      func = x.func;
-      typed = x.typed;
-      weak = x.weak;
-      resolved = true;
-      id = i;
-      address = a;
-    }
+resolved_to i a x = record x { resolved = true; id = i; address = a }
 
 -- the extern with another address, resolved or not as before
 abbrev pub addressed : ℕ → Extern → Extern
-addressed a x =
-    record {
-      name = x.name;
-      place = x.place;
-      entry = x.entry;
-      func = x.func;
-      typed = x.typed;
-      weak = x.weak;
-      resolved = x.resolved;
-      id = x.id;
-      address = Some a;
-    }
+addressed a x = record x { address = Some a }

@@ -7,6 +7,7 @@ use Rattle.model.specs.Chain.{type_at}
 use Rattle.model.specs.Collect.{section_of}
 use Rattle.model.specs.Externs.{Extern, Object}
 use Rattle.model.specs.Kinds.{is_func, is_func_proto}
+use Rattle.model.specs.Spans.{part, end_of}
 use Rattle.model.specs.Tables.{Tables}
 use Rattle.model.specs.declared.btf.BtfType.{BtfType}
 use Rattle.model.specs.declared.btf.DataSecEntry.{DataSecEntry}
@@ -22,27 +23,24 @@ int_of None ts = first_int ts
 -- ---- the rows and entries as they are rewritten
 -- a Func becomes global
 abbrev pub global_func : BtfType → BtfType
-global_func t =
-    record { kind = t.kind; name_offset = t.name_offset; info = with_linkage BTF_FUNC_GLOBAL t.info; size_or_type = t.size_or_type; «data» = t.«data»; start = t.start; len = t.len }
+global_func t = record t { info = with_linkage BTF_FUNC_GLOBAL t.info }
 
 -- a Var becomes global, of the int row
 abbrev pub global_var : ℕ → BtfType → BtfType
-global_var int t =
-    record { kind = t.kind; name_offset = t.name_offset; info = t.info; size_or_type = int; «data» = BTF_VAR_GLOBAL; start = t.start; len = t.len }
+global_var int t = record t { size_or_type = int; «data» = BTF_VAR_GLOBAL }
 
 -- the section gets a size
 abbrev pub sized : ℕ → BtfType → BtfType
-sized n t =
-    record { kind = t.kind; name_offset = t.name_offset; info = t.info; size_or_type = n; «data» = t.«data»; start = t.start; len = t.len }
+sized n t = record t { size_or_type = n }
 
 -- a parameter with a type and no name gets one
 abbrev pub named_param : ℕ → BtfParam → BtfParam
-named_param name p = cond (not (p.btf_type == 0) && p.name_offset == 0) (record { name_offset = name; btf_type = p.btf_type }) p
+named_param name p = cond (not (p.btf_type == 0) && p.name_offset == 0) (record p { name_offset = name }) p
 
 -- each parameter of a FuncProto does
 abbrev pub named_params : ℕ → BtfType → List BtfParam → List BtfParam
 named_params name proto ps =
-    take proto.start ps ++ (map (named_param name) (take proto.len (drop proto.start ps)) ++ drop (proto.start + proto.len) ps)
+    take proto.parts.start ps ++ (map (named_param name) (part ps proto.parts) ++ drop (end_of proto.parts) ps)
 
 -- the entry i of the section is four bytes at 4 × i
 abbrev pub placed : ℕ → ℕ → DataSecEntry
@@ -52,7 +50,7 @@ abbrev pub entry_at : List DataSecEntry → ℕ → DataSecEntry
 entry_at es i = slice_index_or es i (record { btf_type = 0; offset = 0; size = 0 })
 
 abbrev pub with_rows : List BtfType → List DataSecEntry → List BtfParam → Tables → Tables
-with_rows ts es ps t = record { types = ts; entries = es; params = ps; strings = t.strings; header = t.header }
+with_rows ts es ps t = record t { types = ts; entries = es; params = ps }
 
 -- ---- one entry, the i-th of the section and the row `at` of its table
 -- of the Func of an id: the Func becomes global, its parameters get the placeholder's name, the entry becomes the placeholder p
@@ -86,8 +84,8 @@ fix_entries p int start (i ∷ is) t = fix_entries p int start is (fix_entry p i
 abbrev pub fix_section : Option ℕ → ℕ → ℕ → Tables → Tables
 fix_section p d int t =
     let row = type_at t.types d in
-    let u = fix_entries p int row.start (range_with_len 0 row.len) t in
-    with_rows (slice_set u.types d (sized (4 * row.len) (type_at u.types d))) u.entries u.params u
+    let u = fix_entries p int row.parts.start (range_with_len 0 row.parts.len) t in
+    with_rows (slice_set u.types d (sized (4 * row.parts.len) (type_at u.types d))) u.entries u.params u
 
 abbrev pub fix_found : Option ℕ → Result (Option ℕ) Reason → ℕ × Tables → Tables
 fix_found p (Err e) k = k.1
@@ -110,4 +108,4 @@ abbrev pub fix_refusal : Object → Option Reason
 fix_refusal o = fix_refusal_for o.externs o.placeholder o.tables
 
 abbrev pub fixed : Object → Object
-fixed o = record { tables = fixed_for o.externs o.placeholder o.tables; externs = o.externs; placeholder = o.placeholder }
+fixed o = record o { tables = fixed_for o.externs o.placeholder o.tables }

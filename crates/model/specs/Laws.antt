@@ -9,13 +9,13 @@ use Rattle.model.specs.Externs.{Extern, Object, extern_named}
 use Rattle.model.specs.Lines.{said}
 use Rattle.model.specs.Lines.Line.{line}
 use Rattle.model.specs.Lists.{In}
-use Rattle.model.specs.Names.{part}
 use Rattle.model.specs.Relocate.{Program, Taken, taken, slot_index, symbol_of, slot_at, is_load, extern_name}
 use Rattle.model.specs.Resolve.{candidate, strong_typed}
 use Rattle.model.specs.Runs.{State, Step, brings_fit, refusal, granted, next, runs}
 use Rattle.model.specs.Runs.Step.{resolve, fixup, relocate}
 use Rattle.model.specs.Slots.{slots, low, high, loads}
 use Rattle.model.specs.Slots.Loaded.{immediate}
+use Rattle.model.specs.Spans.{part}
 use Rattle.model.specs.Tables.{Tables, Symbols, Catalogue, catalogue_fits}
 use Rattle.model.specs.declared.refusal.Reason.{Reason}
 use Rattle.model.specs.declared.refusal.Reason.TheVariants.{InvalidTable}
@@ -165,8 +165,7 @@ AllGranted (s ∷ ss) st = (granted s st ≡ true) × AllGranted ss (next s st)
 
 -- a symbol, declared weak if b says so
 abbrev pub weaker_symbol : Bool → Symbol → Symbol
-weaker_symbol b s =
-    record { index = s.index; name = s.name; section = s.section; is_definition = s.is_definition; kind = s.kind; is_weak = b || s.is_weak }
+weaker_symbol b s = record s { is_weak = b || s.is_weak }
 
 -- the symbols that m picks by row, declared weak
 abbrev pub weaker_rows : (ℕ → Bool) → List Symbol → List Symbol
@@ -174,13 +173,13 @@ weaker_rows m [] = []
 weaker_rows m (s ∷ ss) = weaker_symbol (m 0) s ∷ weaker_rows (λ i. m (suc i)) ss
 
 abbrev pub weaker_symbols : (ℕ → Bool) → Symbols → Symbols
-weaker_symbols m ss = record { rows = weaker_rows m ss.rows; names = ss.names }
+weaker_symbols m ss = record ss { rows = weaker_rows m ss.rows }
 
 -- a call that brings symbols, some of them declared weak
 abbrev pub weaker_step : (ℕ → Bool) → Step → Step
 weaker_step m (resolve c ls e) = resolve c ls e
 weaker_step m fixup = fixup
-weaker_step m (relocate p) = relocate (record { functions = p.functions; relocations = p.relocations; symbols = weaker_symbols m p.symbols })
+weaker_step m (relocate p) = relocate (record p { symbols = weaker_symbols m p.symbols })
 
 -- the same calls, any symbols that they bring declared weak
 abbrev pub WeakerSteps : List Step → List Step → Type 0
@@ -191,18 +190,7 @@ WeakerSteps (s ∷ ss) (t ∷ ts) = ((m : ℕ → Bool) × (t ≡ weaker_step m 
 
 -- an extern without its weak mark
 abbrev pub unmarked : Extern → Extern
-unmarked x =
-    record {
-      name = x.name;
-      place = x.place;
-      entry = x.entry;
-      func = x.func;
-      typed = x.typed;
-      weak = false;
-      resolved = x.resolved;
-      id = x.id;
-      address = x.address;
-    }
+unmarked x = record x { weak = false }
 
 -- two states are equal but for the weak marks: addresses, ids and all else of the externs, all tables, and the code
 pub record SameButWeak (st tu : State) : Type 0 where

@@ -2,6 +2,7 @@ pub mod Lists
 pub mod Kinds
 pub mod BtfNumbers
 pub mod Names
+pub mod Spans
 pub mod Refusals
 pub mod Chain
 pub mod Tables

@@ -1,20 +1,11 @@
 -- Lists of rows of any kind: what is in one, the lookup by key, and the first refusal. Assumes nothing.
-use Rattle.std.specs.Prelude.{◌≡◌, ℕ, suc, Bool, true, false, cond, ◌&&◌, ◌||◌, ◌⊎◌, List, [], ◌∷◌, Some, None, Ok, Err, Option, Result, ◌==◌, nat_lt}
+use Rattle.std.specs.Prelude.{◌≡◌, ℕ, suc, Bool, true, cond, ◌&&◌, ◌||◌, ◌⊎◌, List, [], ◌∷◌, Some, None, Ok, Err, Option, Result, ◌==◌, nat_lt}
+use Rattle.std.specs.Option.{option_or}
 
 -- x is one of the list
 abbrev pub In : {X : Type 0} → X → List X → Type 0
 In x [] = ⊥
 In x (y ∷ ys) = (y ≡ x) ⊎ In x ys
-
--- whether one of the list passes
-abbrev pub any : {X : Type 0} → (X → Bool) → List X → Bool
-any p [] = false
-any p (x ∷ xs) = p x || any p xs
-
--- whether each of the list passes
-abbrev pub all : {X : Type 0} → (X → Bool) → List X → Bool
-all p [] = true
-all p (x ∷ xs) = p x && all p xs
 
 -- whether each of the list comes before the next
 abbrev pub ascends : {X : Type 0} → (X → X → Bool) → List X → Bool
@@ -36,11 +27,6 @@ abbrev pub number_of : {X : Type 0} → Option (ℕ × X) → Option ℕ
 number_of None = None
 number_of (Some k) = Some k.0
 
--- the first of two that is there
-abbrev pub or_else : {X : Type 0} → Option X → Option X → Option X
-or_else None y = y
-or_else (Some x) y = Some x
-
 -- a refusal that waits for the number of its row
 abbrev pub numbered : {R : Type 0} → ℕ → Option (ℕ → R) → Option R
 numbered n None = None
@@ -49,7 +35,7 @@ numbered n (Some f) = Some (f n)
 -- the first refusal that a row meets, with the row's number, the rows being counted from n
 abbrev pub first : {X R : Type 0} → (X → Option (ℕ → R)) → ℕ → List X → Option R
 first why n [] = None
-first why n (x ∷ xs) = or_else (numbered n (why x)) (first why (suc n) xs)
+first why n (x ∷ xs) = option_or (numbered n (why x)) (first why (suc n) xs)
 
 -- one grant before others
 abbrev pub with_first : {X R : Type 0} → Result X R → Result (List X) R → Result (List X) R

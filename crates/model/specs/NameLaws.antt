@@ -4,7 +4,8 @@ use Rattle.std.specs.List.{AllByRecursion}
 use Rattle.model.specs.Chain.{type_at, resolve_type}
 use Rattle.model.specs.Kinds.{passes_on}
 use Rattle.model.specs.Lists.{lookup}
-use Rattle.model.specs.Names.{name_at, essential, bars, inside}
+use Rattle.model.specs.Names.{name_at, essential, bars}
+use Rattle.model.specs.Spans.{inside}
 use Rattle.model.specs.Tables.{Tables}
 use Rattle.model.specs.Externs.{Extern, seen, whole_name}
 use Rattle.model.specs.declared.btf.BtfType.{BtfType}

@@ -1,8 +1,7 @@
 -- Names in tables of bytes. Assumes nothing.
-use Rattle.std.specs.Prelude.{ℕ, ◌+◌, Bool, false, cond, List, [], ◌∷◌, length, take, drop, Some, None, Option, ◌==◌, nat_le}
+use Rattle.std.specs.Prelude.{ℕ, Bool, false, cond, List, [], ◌∷◌, take, drop, Some, None, Option, ◌==◌}
 use Rattle.std.specs.Option.{option_map}
 use Rattle.std.specs.Str.{bytes_eq}
-use Rattle.model.specs.declared.rows.Span.{Span}
 
 -- the bytes before the first zero byte, or none without one
 abbrev pub to_zero : List ℕ → Option (List ℕ)
@@ -17,14 +16,6 @@ name_at strings offset = to_zero (drop offset strings)
 abbrev pub reads_as : Option (List ℕ) → List ℕ → Bool
 reads_as None n = false
 reads_as (Some m) n = bytes_eq m n
-
--- a part of a table of bytes
-abbrev pub part : List ℕ → Span → List ℕ
-part bytes s = take s.len (drop s.start bytes)
-
--- whether a part lies inside the table
-abbrev pub inside : List ℕ → Span → Bool
-inside bytes s = nat_le (s.start + s.len) (length bytes)
 
 -- whether a name begins with three underscores
 abbrev pub bars : List ℕ → Bool

@@ -7,21 +7,18 @@ use Rattle.model.specs.declared.refusal.Told.{Told}
 use Rattle.model.specs.declared.refusal.Reason.{Reason}
 use Rattle.model.specs.declared.refusal.Reason.TheVariants as why
 
--- what a refusal tells without values, with a row, with a name too, with a line, and with all and two addresses
+-- what a refusal tells that has neither a number nor a value; with a number, with a row too, and with a row and a name
+abbrev pub nothing : Told
+nothing = record { number = None; row = None; name = None; line = None; addresses = None; fault = None }
+
 abbrev pub alone : ℕ → Told
-alone n = record { number = Some n; row = None; name = None; line = None; addresses = None; fault = None }
+alone n = record nothing { number = Some n }
 
 abbrev pub at_row : ℕ → ℕ → Told
-at_row n row = record { number = Some n; row = Some row; name = None; line = None; addresses = None; fault = None }
+at_row n row = record (alone n) { row = Some row }
 
 abbrev pub at_name : ℕ → ℕ → Span → Told
-at_name n row name = record { number = Some n; row = Some row; name = Some name; line = None; addresses = None; fault = None }
-
-abbrev pub at_line : ℕ → ℕ → ℕ → Told
-at_line n row line = record { number = Some n; row = Some row; name = None; line = Some line; addresses = None; fault = None }
-
-abbrev pub at_addresses : ℕ → ℕ → Span → ℕ → ℕ × ℕ → Told
-at_addresses n row name line addresses = record { number = Some n; row = Some row; name = Some name; line = Some line; addresses = Some addresses; fault = None }
+at_name n row name = record (at_row n row) { name = Some name }
 
 -- the row of a type or of an entry
 abbrev pub row_of : Named → ℕ
@@ -43,12 +40,12 @@ told (why.FunctionNotFound row name) = at_name 10 row name
 told (why.IncompatibleFunctionSignature row name) = at_name 11 row name
 told (why.VariableNotFound row name) = at_name 12 row name
 told (why.IncompatibleVariableType row name) = at_name 13 row name
-told (why.KallsymsAccessError fault) = record { number = Some 14; row = None; name = None; line = None; addresses = None; fault = Some fault }
-told (why.KallsymsParseError row line) = at_line 15 row line
-told (why.AmbiguousResolution row name line a b) = at_addresses 16 row name line (a, b)
+told (why.KallsymsAccessError fault) = record (alone 14) { fault = Some fault }
+told (why.KallsymsParseError row line) = record (at_row 15 row) { line = Some line }
+told (why.AmbiguousResolution row name line a b) = record (at_name 16 row name) { line = Some line; addresses = Some (a, b) }
 told (why.InvalidRelocationOffset row) = at_row 17 row
 told (why.UnknownSymbol row) = at_row 18 row
 told (why.ExternNotFound row name) = at_name 19 row name
 told (why.ExternWithoutId row name) = at_name 20 row name
 told (why.UnresolvableSymbol row name) = at_name 21 row name
-told why.OutOfMemory = record { number = None; row = None; name = None; line = None; addresses = None; fault = None }
+told why.OutOfMemory = nothing

@@ -1,9 +1,10 @@
 -- What relocation answers and makes of the slots. Assumes nothing.
-use Rattle.std.specs.Prelude.{ℕ, suc, ◌+◌, ◌-◌, ◌*◌, ◌/◌, ◌%◌, Bool, true, false, cond, not, ◌&&◌, List, [], ◌∷◌, ◌++◌, length, ℤ, pos, is_some, Some, None, Ok, Err, Option, Result, ◌==◌, nat_le, nat_lt, slice_index_or, slice_set}
+use Rattle.std.specs.Prelude.{ℕ, suc, ◌+◌, ◌-◌, ◌*◌, ◌/◌, ◌%◌, Bool, true, false, cond, not, ◌&&◌, List, [], ◌∷◌, ◌++◌, map, length, ℤ, pos, is_some, Some, None, Ok, Err, Option, Result, ◌==◌, nat_le, nat_lt, slice_index_or, slice_set}
+use Rattle.std.specs.List.{list_all}
 use Rattle.model.specs.Externs.{Extern, extern_named}
-use Rattle.model.specs.Lists.{all, ascends, earlier, lookup}
-use Rattle.model.specs.Names.{part}
+use Rattle.model.specs.Lists.{ascends, earlier, lookup}
 use Rattle.model.specs.Slots.{LOAD, CALL, BPF_PSEUDO_BTF_ID, BPF_PSEUDO_KFUNC_CALL, whole_slots, with_src, with_imm, signed, low, high}
+use Rattle.model.specs.Spans.{part, end_of, follow}
 use Rattle.model.specs.Tables.{Symbols, MAX_ROWS, MAX_FUNCTIONS, MAX_SECTION_OFFSET, symbols_fit}
 use Rattle.model.specs.declared.rows.Span.{Span}
 use Rattle.model.specs.declared.rows.Symbol.{Symbol}
@@ -21,16 +22,16 @@ pub record Program : Type 0 where
   pub relocations : List Relocation
   pub symbols : Symbols
 
--- the functions' spans of slots, each from where the last one ended, the first at `at`, are among n slots
-abbrev pub functions_follow : ℕ → ℕ → List Function → Bool
-functions_follow at n [] = nat_le at n
-functions_follow at n (f ∷ fs) = f.start == at && functions_follow (at + f.len) n fs
+-- the slots of each function
+abbrev pub slots_of : List Function → List Span
+slots_of fs = map (λ f. f.slots) fs
 
+-- functions are well-formed with code of n slots
 abbrev pub functions_fit : List Function → ℕ → Bool
 functions_fit fs n =
     nat_le (length fs) MAX_FUNCTIONS
-    && (all (λ f. nat_le f.section_offset MAX_SECTION_OFFSET) fs
-    && (ascends (λ f g. earlier (f.section, f.address) (g.section, g.address)) fs && functions_follow 0 n fs))
+    && (list_all (λ f. nat_le f.section_offset MAX_SECTION_OFFSET) fs
+    && (ascends (λ f g. earlier (f.section, f.address) (g.section, g.address)) fs && follow 0 (slots_of fs) n))
 
 abbrev pub relocations_fit : List Relocation → Bool
 relocations_fit rs = nat_le (length rs) MAX_ROWS && ascends (λ r s. earlier (r.section, r.offset) (s.section, s.offset)) rs
@@ -52,7 +53,7 @@ pub record Taken : Type 0 where
 
 abbrev pub points_into : Function → Relocation → Bool
 points_into f r =
-    (r.section == f.section) && (nat_le f.section_offset r.offset && nat_lt r.offset (f.section_offset + f.len * 8))
+    (r.section == f.section) && (nat_le f.section_offset r.offset && nat_lt r.offset (f.section_offset + f.slots.len * 8))
 
 abbrev pub taken_in : Function → ℕ → List Relocation → List Taken
 taken_in f n [] = []
@@ -69,10 +70,10 @@ on_slot t = (t.relocation.offset - t.function.section_offset) % 8 == 0
 
 -- the slot that it points at, and whether the function has a next one
 abbrev pub slot_index : Taken → ℕ
-slot_index t = t.function.start + (t.relocation.offset - t.function.section_offset) / 8
+slot_index t = t.function.slots.start + (t.relocation.offset - t.function.section_offset) / 8
 
 abbrev pub has_next : Taken → Bool
-has_next t = nat_lt (slot_index t + 1) (t.function.start + t.function.len)
+has_next t = nat_lt (slot_index t + 1) (end_of t.function.slots)
 
 -- ---- its symbol
 abbrev pub symbol_of : Symbols → Taken → Option (ℕ × Symbol)
@@ -103,7 +104,7 @@ is_load s = s.code == LOAD
 
 -- a call with an id
 abbrev pub kernel_call : ℕ → Slot → Slot
-kernel_call id s = record { code = s.code; regs = (with_src BPF_PSEUDO_KFUNC_CALL s).regs; off = pos 0; imm = signed id }
+kernel_call id s = record (with_src BPF_PSEUDO_KFUNC_CALL s) { off = pos 0; imm = signed id }
 
 -- a weak call without one: the immediate is 2002000000 plus the symbol's number, and wraps in 32 signed bits
 abbrev pub POISON_CALL_KFUNC_BASE : ℕ

@@ -1,5 +1,7 @@
 -- What resolution answers and sets. Assumes nothing.
 use Rattle.std.specs.Prelude.{ℕ, Bool, cond, not, ◌&&◌, ◌||◌, List, [], ◌∷◌, map, is_some, Some, None, Option, ◌==◌}
+use Rattle.std.specs.Option.{option_or}
+use Rattle.std.specs.List.{list_any}
 use Rattle.std.specs.Str.{bytes_eq}
 use Rattle.kallsyms.specs.declared.ends.End.{End}
 use Rattle.kallsyms.specs.declared.ends.End.TheVariants.{Clean, Broken}
@@ -7,8 +9,9 @@ use Rattle.kallsyms.specs.Line.{number_after}
 use Rattle.model.specs.Externs.{Extern, whole_name, essential_name, resolved_to, addressed}
 use Rattle.model.specs.Lines.{Line, said, first_address}
 use Rattle.model.specs.Lines.Line.{line, short}
-use Rattle.model.specs.Lists.{any, lookup, or_else, first}
-use Rattle.model.specs.Names.{part, essential}
+use Rattle.model.specs.Lists.{lookup, first}
+use Rattle.model.specs.Names.{essential}
+use Rattle.model.specs.Spans.{part}
 use Rattle.model.specs.Tables.{Catalogue}
 use Rattle.model.specs.declared.rows.CatalogueKind.{CatalogueKind}
 use Rattle.model.specs.declared.rows.CatalogueKind.TheVariants as catalogued
@@ -93,11 +96,11 @@ missing_refusal ls x = cond ((wanted x && not x.weak) && first_address x.name ls
 -- the lines as read, then the end, then the names without an address; nothing of these if no name is wanted
 abbrev pub lines_refusal : List Extern → List Line → End → Option Reason
 lines_refusal xs ls e =
-    cond (any wanted xs) (or_else (first (line_refusal xs ls) 0 ls) (or_else (end_refusal e) (first (missing_refusal ls) 0 xs))) None
+    cond (list_any wanted xs) (option_or (first (line_refusal xs ls) 0 ls) (option_or (end_refusal e) (first (missing_refusal ls) 0 xs))) None
 
 -- the typed externs first, in row order
 abbrev pub resolve_refusal : Option Catalogue → List (List ℕ) → End → List Extern → Option Reason
-resolve_refusal c ls e xs = or_else (first (typed_refusal c) 0 xs) (lines_refusal xs (map said ls) e)
+resolve_refusal c ls e xs = option_or (first (typed_refusal c) 0 xs) (lines_refusal xs (map said ls) e)
 
 -- ---- the lines left unread: those after the first that is refused; all, if a typed extern is refused or no name is wanted
 abbrev pub after_first : (List ℕ → Bool) → List (List ℕ) → List (List ℕ)
@@ -106,7 +109,7 @@ after_first stops (l ∷ ls) = cond (stops l) ls (after_first stops ls)
 
 abbrev pub left_unread : Option Catalogue → List (List ℕ) → List Extern → List (List ℕ)
 left_unread c ls xs =
-    cond (is_some (first (typed_refusal c) 0 xs) || not (any wanted xs)) ls (after_first (λ l. is_some (line_refusal xs (map said ls) (said l))) ls)
+    cond (is_some (first (typed_refusal c) 0 xs) || not (list_any wanted xs)) ls (after_first (λ l. is_some (line_refusal xs (map said ls) (said l))) ls)
 
 -- ---- what a granted call sets
 -- a typed extern whose row fits gets its id and is resolved

@@ -64,7 +64,7 @@ granted s st = is_ok (answer s st)
 
 -- the object after a call that is granted
 abbrev pub made : Step → Object → Object
-made (resolve c ls e) o = record { tables = o.tables; externs = map (given c (map said ls)) o.externs; placeholder = o.placeholder }
+made (resolve c ls e) o = record o { externs = map (given c (map said ls)) o.externs }
 made fixup o = fixed o
 made (relocate p) o = o
 

@@ -44,7 +44,7 @@ abbrev pub src_reg : Slot → ℕ
 src_reg s = s.regs / 16
 
 abbrev pub with_regs : ℕ → Slot → Slot
-with_regs regs s = record { code = s.code; regs = regs; off = s.off; imm = s.imm }
+with_regs regs s = record s { regs = regs }
 
 -- one register set, the other kept
 abbrev pub with_dst : ℕ → Slot → Slot
@@ -54,7 +54,7 @@ abbrev pub with_src : ℕ → Slot → Slot
 with_src r s = with_regs (r * 16 + dst_reg s) s
 
 abbrev pub with_imm : ℤ → Slot → Slot
-with_imm imm s = record { code = s.code; regs = s.regs; off = s.off; imm = imm }
+with_imm imm s = record s { imm = imm }
 
 -- ---- opcodes
 -- a class, in the low three bits

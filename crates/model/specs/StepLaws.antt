@@ -15,6 +15,7 @@ use Rattle.model.specs.Relocate.{Program, Taken, taken, slot_at}
 use Rattle.model.specs.Runs.{State, Step, granted, next, runs}
 use Rattle.model.specs.Runs.Step.{resolve, fixup, relocate}
 use Rattle.model.specs.Slots.{slots}
+use Rattle.model.specs.Spans.{Outside}
 use Rattle.model.specs.Tables.{Tables, Symbols, Catalogue}
 use Rattle.model.specs.declared.btf.BtfParam.{BtfParam}
 use Rattle.model.specs.declared.btf.BtfType.{BtfType}
@@ -57,7 +58,7 @@ abbrev pub NotOf : List BtfType → ℕ → ℕ → Type 0
 NotOf ts id k =
     is_func (type_at ts id) ≡ true
     → is_func_proto (type_at ts (type_at ts id).size_or_type) ≡ true
-    → (k < (type_at ts (type_at ts id).size_or_type).start) ⊎ ((type_at ts (type_at ts id).size_or_type).start + (type_at ts (type_at ts id).size_or_type).len ≤ k)
+    → Outside (type_at ts (type_at ts id).size_or_type).parts k
 
 -- of an object o with the section d: rows that are neither d nor of an entry, and entries outside the section, are as before, and every
 -- row keeps its kind, its name and its parts; so do parameters that have a name, no type, or are of no function of the section; and
@@ -68,9 +69,8 @@ pub record Leaves (o new : Object) (d : ℕ) : Type 0 where
   pub rows : (k : ℕ) → k < length o.tables.types → (k ≢ d) → ((e : DataSecEntry) → In e (entries_of o.tables d) → e.btf_type ≢ k) → type_at new.tables.types k ≡ type_at o.tables.types k
   pub kinds : (k : ℕ) → k < length o.tables.types → (type_at new.tables.types k).kind ≡ (type_at o.tables.types k).kind
   pub names : (k : ℕ) → k < length o.tables.types → (type_at new.tables.types k).name_offset ≡ (type_at o.tables.types k).name_offset
-  pub starts : (k : ℕ) → k < length o.tables.types → (type_at new.tables.types k).start ≡ (type_at o.tables.types k).start
-  pub lens : (k : ℕ) → k < length o.tables.types → (type_at new.tables.types k).len ≡ (type_at o.tables.types k).len
-  pub entries : (k : ℕ) → (k < (type_at o.tables.types d).start) ⊎ ((type_at o.tables.types d).start + (type_at o.tables.types d).len ≤ k) → entry_at new.tables.entries k ≡ entry_at o.tables.entries k
+  pub parts : (k : ℕ) → k < length o.tables.types → (type_at new.tables.types k).parts ≡ (type_at o.tables.types k).parts
+  pub entries : (k : ℕ) → Outside (type_at o.tables.types d).parts k → entry_at new.tables.entries k ≡ entry_at o.tables.entries k
   pub params : (k : ℕ) → ((param_at o.tables.params k).btf_type ≡ 0) ⊎ ((param_at o.tables.params k).name_offset ≢ 0) → param_at new.tables.params k ≡ param_at o.tables.params k
   pub other_params : (k : ℕ) → ((e : DataSecEntry) → In e (entries_of o.tables d) → NotOf o.tables.types e.btf_type k) → param_at new.tables.params k ≡ param_at o.tables.params k
   pub strings : (k : ℕ) → k < length o.tables.strings → slice_index new.tables.strings k ≡ slice_index o.tables.strings k

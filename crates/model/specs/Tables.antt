@@ -1,9 +1,10 @@
 -- The tables of a BTF, of symbols and of a catalogue, and when they are well-formed. Assumes nothing.
-use Rattle.std.specs.Prelude.{ℕ, ◌+◌, Bool, true, false, cond, ◌&&◌, ◌||◌, List, [], ◌∷◌, length, Some, None, Option, ◌==◌, nat_le, nat_lt}
+use Rattle.std.specs.Prelude.{ℕ, Bool, true, false, cond, ◌&&◌, ◌||◌, List, [], ◌∷◌, length, Some, None, Option, ◌==◌, nat_le, nat_lt}
+use Rattle.std.specs.List.{list_all}
 use Rattle.std.specs.Option.{option_map}
 use Rattle.model.specs.Kinds.{of_kind, is_func_proto, is_data_sec}
-use Rattle.model.specs.Lists.{all, ascends}
-use Rattle.model.specs.Names.{part, inside}
+use Rattle.model.specs.Lists.{ascends}
+use Rattle.model.specs.Spans.{part, inside, follow}
 use Rattle.model.specs.declared.btf.BtfType.{BtfType}
 use Rattle.model.specs.declared.btf.DataSecEntry.{DataSecEntry}
 use Rattle.model.specs.declared.btf.BtfParam.{BtfParam}
@@ -41,14 +42,14 @@ abbrev pub void_first : List BtfType → Bool
 void_first [] = false
 void_first (t ∷ ts) = of_kind 0 t
 
--- the span of each row of a kind starts where the last one ended, the first at `at`, and the last ends inside a table of n rows
-abbrev pub spans_follow : ℕ → ℕ → List BtfType → ℕ → Bool
-spans_follow k at [] n = nat_le at n
-spans_follow k at (t ∷ ts) n = cond (of_kind k t) (t.start == at && spans_follow k (at + t.len) ts n) (spans_follow k at ts n)
+-- the parts of each row of a kind
+abbrev pub parts_of : ℕ → List BtfType → List Span
+parts_of k [] = []
+parts_of k (t ∷ ts) = cond (of_kind k t) (t.parts ∷ parts_of k ts) (parts_of k ts)
 
 -- a row that is no DataSec and no FuncProto has no parts
 abbrev pub parts_fit : BtfType → Bool
-parts_fit t = (is_data_sec t || is_func_proto t) || t.len == 0
+parts_fit t = (is_data_sec t || is_func_proto t) || t.parts.len == 0
 
 abbrev pub few : Tables → Bool
 few t =
@@ -60,8 +61,8 @@ abbrev pub tables_fit : Tables → Bool
 tables_fit t =
     few t
     && (void_first t.types
-    && (all parts_fit t.types
-    && (spans_follow 15 0 t.types (length t.entries) && spans_follow 13 0 t.types (length t.params))))
+    && (list_all parts_fit t.types
+    && (follow 0 (parts_of 15 t.types) (length t.entries) && follow 0 (parts_of 13 t.types) (length t.params))))
 
 -- ---- symbols, with the table of their names
 pub record Symbols : Type 0 where
@@ -76,7 +77,7 @@ inside_if_any names (Some s) = inside names s
 abbrev pub symbols_fit : Symbols → Bool
 symbols_fit ss =
     (nat_le (length ss.rows) MAX_ROWS && nat_le (length ss.names) MAX_NAMES)
-    && (ascends (λ s t. nat_lt s.index t.index) ss.rows && all (λ s. inside_if_any ss.names s.name) ss.rows)
+    && (ascends (λ s t. nat_lt s.index t.index) ss.rows && list_all (λ s. inside_if_any ss.names s.name) ss.rows)
 
 -- the name of a symbol
 abbrev pub symbol_name : Symbols → Symbol → Option (List ℕ)
@@ -91,4 +92,4 @@ pub record Catalogue : Type 0 where
 abbrev pub catalogue_fits : Option Catalogue → Bool
 catalogue_fits None = true
 catalogue_fits (Some c) =
-    (nat_le (length c.rows) MAX_ROWS && nat_le (length c.names) MAX_NAMES) && all (λ k. inside c.names k.name) c.rows
+    (nat_le (length c.rows) MAX_ROWS && nat_le (length c.names) MAX_NAMES) && list_all (λ k. inside c.names k.name) c.rows

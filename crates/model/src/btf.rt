@@ -1,7 +1,9 @@
 // The rows of an object's BTF.
 
+use crate::rows::Span;
+
 /// The kind of a type row, numbered from 0 as in the kernel's BTF documentation.
-#[derive(Clone, Copy)]
+#[derive(Clone, Copy, Debug, PartialEq, Eq)]
 pub enum BtfKind {
     Unknown,
     Int,
@@ -26,7 +28,7 @@ pub enum BtfKind {
 }
 
 /// A type; row 0 has kind 0 and stands for void.
-#[derive(Clone, Copy)]
+#[derive(Clone, Copy, Debug, PartialEq, Eq)]
 pub struct BtfType {
     /// The kind.
     pub kind: BtfKind,
@@ -38,14 +40,12 @@ pub struct BtfType {
     pub size_or_type: u32,
     /// An Int's encoding, offset and bits; a Var's linkage.
     pub data: u32,
-    /// The first section entry of a DataSec, or parameter of a FuncProto.
-    pub start: u32,
-    /// How many section entries or parameters there are.
-    pub len: u32,
+    /// The section entries of a DataSec, or the parameters of a FuncProto.
+    pub parts: Span,
 }
 
 /// An entry of a DataSec: where a variable stands in its section.
-#[derive(Clone, Copy)]
+#[derive(Clone, Copy, Debug, PartialEq, Eq)]
 pub struct DataSecEntry {
     /// The id of a Var or a Func.
     pub btf_type: u32,
@@ -56,7 +56,7 @@ pub struct DataSecEntry {
 }
 
 /// A parameter of a FuncProto.
-#[derive(Clone, Copy)]
+#[derive(Clone, Copy, Debug, PartialEq, Eq)]
 pub struct BtfParam {
     /// The offset of the name in the type strings, 0 for none.
     pub name_offset: u32,
@@ -65,7 +65,7 @@ pub struct BtfParam {
 }
 
 /// The numbers of a BTF's header that change with its tables.
-#[derive(Clone, Copy)]
+#[derive(Clone, Copy, Debug, PartialEq, Eq)]
 pub struct BtfHeader {
     /// The length of the type section in bytes.
     pub type_len: u32,
@@ -76,7 +76,7 @@ pub struct BtfHeader {
 }
 
 /// Why a chain of types has no end.
-#[derive(Clone, Copy)]
+#[derive(Clone, Copy, Debug, PartialEq, Eq)]
 pub enum ChainError {
     /// An id on it is not a row.
     UnknownBtfType,

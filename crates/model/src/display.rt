@@ -64,18 +64,15 @@ impl fmt::Display for Named {
     }
 }
 
-/// The values of a reason, for people.
+/// A reason that is printed as its values.
 #[derive(Clone, Copy)]
-pub struct Values {
-    /// The reason.
-    pub reason: Reason,
-}
+pub struct Values(pub Reason);
 
 impl fmt::Display for Values {
-    ghost output = { λ v. Some (values_text v.reason) };
+    ghost output = { λ v. Some (values_text v.0) };
 
     fn fmt<W: fmt::Write>(&self, f: &mut fmt::Formatter<W>) -> fmt::Result {
-        match self.reason {
+        match self.0 {
             Reason::InvalidTable | Reason::NoRoom | Reason::OutOfMemory => write!(f, ""),
             Reason::InvalidStringOffset { of } => write!(f, ", {of}"),
             Reason::UnknownBtfType { row }
@@ -120,10 +117,8 @@ impl fmt::Display for Refusal {
     fn fmt<W: fmt::Write>(&self, f: &mut fmt::Formatter<W>) -> fmt::Result {
         let call = self.call.name();
         let name = self.reason.name();
-        let values = Values {
-            reason: self.reason,
-        };
-        match self.reason.told().number {
+        let values = Values(self.reason);
+        match self.reason.number() {
             Some(number) => write!(f, "{call}: refused {number} {name}{values}"),
             None => write!(f, "{call}: {name}{values}"),
         }

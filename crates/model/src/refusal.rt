@@ -1,12 +1,12 @@
 // Why a call was refused.
 ghost use Rattle.std.specs.Prelude.{◌≡◌};
-ghost use Rattle.model.specs.Refusals.{alone as alone_of, at_row, at_name, at_line, at_addresses, row_of, told as told_of};
+ghost use Rattle.model.specs.Refusals.{row_of, told as told_of};
 
 use crate::rows::Span;
 use kallsyms::ends::Fault;
 
 /// The calls on an object.
-#[derive(Clone, Copy)]
+#[derive(Clone, Copy, Debug, PartialEq, Eq)]
 pub enum Call {
     /// `collect_ksyms_from_btf`.
     Collect,
@@ -19,7 +19,7 @@ pub enum Call {
 }
 
 /// A row that should have a name.
-#[derive(Clone, Copy)]
+#[derive(Clone, Copy, Debug, PartialEq, Eq)]
 pub enum Named {
     /// A DataSec, by its type row.
     Section(usize),
@@ -29,7 +29,7 @@ pub enum Named {
 
 /// Why a call was refused; `row` is the first entry, extern or relocation that meets it, by its row,
 /// and `name` the place of a name: of an extern in the type strings, of a relocation's symbol in the symbol names.
-#[derive(Clone, Copy)]
+#[derive(Clone, Copy, Debug, PartialEq)]
 pub enum Reason {
     /// A table breaks a limit, an order or a span, or an object is not as collection leaves it.
     InvalidTable,
@@ -128,7 +128,7 @@ pub enum Reason {
 }
 
 /// A refusal: the call it came from, and why.
-#[derive(Clone, Copy)]
+#[derive(Clone, Copy, Debug, PartialEq)]
 pub struct Refusal {
     /// The call.
     pub call: Call,
@@ -137,7 +137,7 @@ pub struct Refusal {
 }
 
 /// What a refusal tells: its number, and where it has them a row, the place of a name, a line, two addresses and a fault.
-#[derive(Clone, Copy)]
+#[derive(Clone, Copy, Debug, PartialEq)]
 pub struct Told {
     /// The number, from 1 to 21; want of memory has none.
     pub number: Option<u8>,
@@ -153,50 +153,6 @@ pub struct Told {
     pub fault: Option<Fault>,
 }
 
-// What a refusal without values tells.
-fn alone(number: u8) -> Told
-    ensures { result ≡ alone_of number }
-{
-    Told {
-        number: Some(number),
-        row: None,
-        name: None,
-        line: None,
-        addresses: None,
-        fault: None,
-    }
-}
-
-// What a refusal of a row tells.
-fn at_row(number: u8, row: usize) -> Told
-    ensures { result ≡ at_row number row }
-{
-    Told {
-        row: Some(row),
-        ..alone(number)
-    }
-}
-
-// What a refusal of a row with a name tells.
-fn at_name(number: u8, row: usize, name: Span) -> Told
-    ensures { result ≡ at_name number row name }
-{
-    Told {
-        name: Some(name),
-        ..at_row(number, row)
-    }
-}
-
-// What a refusal of the lines of a list tells.
-fn at_line(number: u8, row: usize, line: u64) -> Told
-    ensures { result ≡ at_line number row line }
-{
-    Told {
-        line: Some(line),
-        ..at_row(number, row)
-    }
-}
-
 impl Named {
     // The row.
     fn row(self) -> usize
@@ -208,57 +164,116 @@ impl Named {
     }
 }
 
-// What a refusal by two addresses tells.
-fn at_addresses(row: usize, name: Span, line: u64, addresses: (u64, u64)) -> Told
-    ensures { result ≡ at_addresses 16 row name line addresses }
-{
-    Told {
-        name: Some(name),
-        addresses: Some(addresses),
-        ..at_line(16, row, line)
-    }
-}
-
 impl Reason {
+    /// The number, from 1 to 21; want of memory has none.
+    pub fn number(self) -> Option<u8>
+        ensures { result ≡ (told_of self).number }
+    {
+        match self {
+            Reason::InvalidTable => Some(1),
+            Reason::UnknownBtfType { .. } => Some(2),
+            Reason::InvalidDatasec { .. } => Some(3),
+            Reason::InvalidStringOffset { .. } => Some(4),
+            Reason::InvalidSymbolName { .. } => Some(5),
+            Reason::MaximumTypeDepthReached { .. } => Some(6),
+            Reason::DuplicateName { .. } => Some(7),
+            Reason::NoRoom => Some(8),
+            Reason::TypedKsymRequiresKernelBtf { .. } => Some(9),
+            Reason::FunctionNotFound { .. } => Some(10),
+            Reason::IncompatibleFunctionSignature { .. } => Some(11),
+            Reason::VariableNotFound { .. } => Some(12),
+            Reason::IncompatibleVariableType { .. } => Some(13),
+            Reason::KallsymsAccessError { .. } => Some(14),
+            Reason::KallsymsParseError { .. } => Some(15),
+            Reason::AmbiguousResolution { .. } => Some(16),
+            Reason::InvalidRelocationOffset { .. } => Some(17),
+            Reason::UnknownSymbol { .. } => Some(18),
+            Reason::ExternNotFound { .. } => Some(19),
+            Reason::ExternWithoutId { .. } => Some(20),
+            Reason::UnresolvableSymbol { .. } => Some(21),
+            Reason::OutOfMemory => None,
+        }
+    }
+
+    // The row.
+    fn row(self) -> Option<usize>
+        ensures { result ≡ (told_of self).row }
+    {
+        match self {
+            Reason::InvalidTable
+            | Reason::NoRoom
+            | Reason::KallsymsAccessError { .. }
+            | Reason::OutOfMemory => None,
+            Reason::InvalidStringOffset { of } => Some(of.row()),
+            Reason::UnknownBtfType { row }
+            | Reason::InvalidDatasec { row }
+            | Reason::InvalidSymbolName { row }
+            | Reason::MaximumTypeDepthReached { row }
+            | Reason::DuplicateName { row }
+            | Reason::TypedKsymRequiresKernelBtf { row }
+            | Reason::FunctionNotFound { row, .. }
+            | Reason::IncompatibleFunctionSignature { row, .. }
+            | Reason::VariableNotFound { row, .. }
+            | Reason::IncompatibleVariableType { row, .. }
+            | Reason::KallsymsParseError { row, .. }
+            | Reason::AmbiguousResolution { row, .. }
+            | Reason::InvalidRelocationOffset { row }
+            | Reason::UnknownSymbol { row }
+            | Reason::ExternNotFound { row, .. }
+            | Reason::ExternWithoutId { row, .. }
+            | Reason::UnresolvableSymbol { row, .. } => Some(row),
+        }
+    }
+
+    // The place of a name.
+    fn place(self) -> Option<Span>
+        ensures { result ≡ (told_of self).name }
+    {
+        match self {
+            Reason::FunctionNotFound { name, .. }
+            | Reason::IncompatibleFunctionSignature { name, .. }
+            | Reason::VariableNotFound { name, .. }
+            | Reason::IncompatibleVariableType { name, .. }
+            | Reason::AmbiguousResolution { name, .. }
+            | Reason::ExternNotFound { name, .. }
+            | Reason::ExternWithoutId { name, .. }
+            | Reason::UnresolvableSymbol { name, .. } => Some(name),
+            _ => None,
+        }
+    }
+
     /// The number and the values of the reason.
     pub fn told(self) -> Told
         ensures { result ≡ told_of self }
     {
+        let told = Told {
+            number: self.number(),
+            row: self.row(),
+            name: self.place(),
+            line: None,
+            addresses: None,
+            fault: None,
+        };
         match self {
-            Reason::InvalidTable => alone(1),
-            Reason::UnknownBtfType { row } => at_row(2, row),
-            Reason::InvalidDatasec { row } => at_row(3, row),
-            Reason::InvalidStringOffset { of } => at_row(4, of.row()),
-            Reason::InvalidSymbolName { row } => at_row(5, row),
-            Reason::MaximumTypeDepthReached { row } => at_row(6, row),
-            Reason::DuplicateName { row } => at_row(7, row),
-            Reason::NoRoom => alone(8),
-            Reason::TypedKsymRequiresKernelBtf { row } => at_row(9, row),
-            Reason::FunctionNotFound { row, name } => at_name(10, row, name),
-            Reason::IncompatibleFunctionSignature { row, name } => at_name(11, row, name),
-            Reason::VariableNotFound { row, name } => at_name(12, row, name),
-            Reason::IncompatibleVariableType { row, name } => at_name(13, row, name),
             Reason::KallsymsAccessError { fault } => Told {
                 fault: Some(fault),
-                ..alone(14)
+                ..told
             },
-            Reason::KallsymsParseError { row, line } => at_line(15, row, line),
+            Reason::KallsymsParseError { line, .. } => Told {
+                line: Some(line),
+                ..told
+            },
             Reason::AmbiguousResolution {
-                row,
-                name,
                 line,
                 first_addr,
                 second_addr,
-            } => at_addresses(row, name, line, (first_addr, second_addr)),
-            Reason::InvalidRelocationOffset { row } => at_row(17, row),
-            Reason::UnknownSymbol { row } => at_row(18, row),
-            Reason::ExternNotFound { row, name } => at_name(19, row, name),
-            Reason::ExternWithoutId { row, name } => at_name(20, row, name),
-            Reason::UnresolvableSymbol { row, name } => at_name(21, row, name),
-            Reason::OutOfMemory => Told {
-                number: None,
-                ..alone(0)
+                ..
+            } => Told {
+                line: Some(line),
+                addresses: Some((first_addr, second_addr)),
+                ..told
             },
+            _ => told,
         }
     }
 }

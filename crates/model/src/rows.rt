@@ -1,16 +1,16 @@
 // The rows of symbols, of a catalogue, of externs and of a program.
 
-/// A part of a table of bytes.
-#[derive(Clone, Copy)]
+/// A part of a table: bytes of names, section entries, parameters or instruction slots.
+#[derive(Clone, Copy, Debug, PartialEq, Eq)]
 pub struct Span {
-    /// The index of the first byte.
+    /// Its first row.
     pub start: usize,
-    /// How many bytes there are.
+    /// How many rows it has.
     pub len: usize,
 }
 
 /// What a symbol stands for.
-#[derive(Clone, Copy)]
+#[derive(Clone, Copy, Debug, PartialEq, Eq)]
 pub enum SymbolKind {
     Unknown,
     Text,
@@ -22,7 +22,7 @@ pub enum SymbolKind {
 }
 
 /// A symbol of the probe.
-#[derive(Clone, Copy)]
+#[derive(Clone, Copy, Debug, PartialEq, Eq)]
 pub struct Symbol {
     /// The number by which relocations refer to it.
     pub index: u32,
@@ -39,14 +39,14 @@ pub struct Symbol {
 }
 
 /// What a row of a catalogue is of.
-#[derive(Clone, Copy)]
+#[derive(Clone, Copy, Debug, PartialEq, Eq)]
 pub enum CatalogueKind {
     Func,
     Var,
 }
 
 /// A function or a variable that the kernel has a type for.
-#[derive(Clone, Copy)]
+#[derive(Clone, Copy, Debug, PartialEq, Eq)]
 pub struct CatalogueRow {
     /// Its name, a part of the catalogue's names.
     pub name: Span,
@@ -59,7 +59,7 @@ pub struct CatalogueRow {
 }
 
 /// A kernel symbol that the probe declares, and what is known of it.
-#[derive(Clone, Copy)]
+#[derive(Clone, Copy, Debug, PartialEq, Eq)]
 pub struct ExternDesc {
     /// Its name, a part of the type strings.
     pub name: Span,
@@ -78,7 +78,7 @@ pub struct ExternDesc {
 }
 
 /// A function of the probe: a stretch of instruction slots.
-#[derive(Clone, Copy)]
+#[derive(Clone, Copy, Debug, PartialEq, Eq)]
 pub struct Function {
     /// The section it lies in.
     pub section: u32,
@@ -86,14 +86,12 @@ pub struct Function {
     pub address: u64,
     /// Where it begins in the section, in bytes, as relocations count.
     pub section_offset: u64,
-    /// Its first slot.
-    pub start: usize,
-    /// How many slots it has.
-    pub len: usize,
+    /// Its slots.
+    pub slots: Span,
 }
 
 /// A place in a section that refers to a symbol.
-#[derive(Clone, Copy)]
+#[derive(Clone, Copy, Debug, PartialEq, Eq)]
 pub struct Relocation {
     /// The section.
     pub section: u32,
@@ -104,7 +102,7 @@ pub struct Relocation {
 }
 
 /// An instruction slot of eight bytes.
-#[derive(Clone, Copy)]
+#[derive(Clone, Copy, Debug, PartialEq, Eq)]
 pub struct Slot {
     /// What to do.
     pub code: u8,
