@@ -3,7 +3,7 @@ use Rattle.std.specs.Prelude.{ℕ, Bool, true, false, cond, ◌&&◌, List, [], 
 use Rattle.kallsyms.specs.Line.{number_after}
 use Rattle.kallsyms.specs.Joins.{joined_end}
 use Rattle.kallsyms.specs.declared.ends.Fault.TheVariants.{LineTooLong, ByteTooLarge}
-use Rattle.kallsyms.specs.Ends.{End}
+use Rattle.kallsyms.specs.Ends.{End, clean}
 
 -- whether the next byte is 10
 abbrev pub feeds : List ℕ → Bool
@@ -27,7 +27,7 @@ plain (b ∷ bs) = nat_lt b 128 && plain bs
 
 -- whether the piece at a line number is a line, or else its fault: too long is looked for before too large
 abbrev pub verdict : ℕ → List ℕ → End
-verdict n p = cond (nat_lt 1024 (length p)) (Err (LineTooLong n)) (cond (plain p) (Ok tt) (Err (ByteTooLarge n)))
+verdict n p = cond (nat_lt 1024 (length p)) (Err (LineTooLong n)) (cond (plain p) clean (Err (ByteTooLarge n)))
 
 -- a piece before the lines after it, or no line where it has a fault
 abbrev pub keep : End → List ℕ → List (List ℕ) → List (List ℕ)
@@ -41,7 +41,7 @@ kept n (p ∷ ps) = keep (verdict n p) p (kept (number_after n) ps)
 
 -- the first fault, or clean
 abbrev pub ended : ℕ → List (List ℕ) → End
-ended n [] = Ok tt
+ended n [] = clean
 ended n (p ∷ ps) = joined_end (verdict n p) (ended (number_after n) ps)
 
 -- the lines of a text whose first line has number n

@@ -6,6 +6,10 @@ use Rattle.kallsyms.specs.declared.ends.Fault.{Fault}
 abbrev pub End : Type 0
 End = Result (Unit {0}) Fault
 
+-- the end without a fault
+abbrev pub clean : End
+clean = Ok tt
+
 -- what a step of a source answers when no line is left
 abbrev pub at_end : End → Result (Option ℕ) Fault
 at_end (Ok tt) = Ok None

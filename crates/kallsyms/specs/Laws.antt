@@ -1,6 +1,7 @@
 -- What follows from the definitions, in the words of a reader of kernel lists. Assumes nothing.
-use Rattle.std.specs.Prelude.{◌≡◌, ℕ, ◌+◌, ◌<◌, true, List, [], ◌∷◌, ◌++◌, length, take, drop, Some, None, codes, Ok}
+use Rattle.std.specs.Prelude.{◌≡◌, ℕ, ◌+◌, ◌<◌, true, List, [], ◌∷◌, ◌++◌, length, take, drop, Some, None, codes}
 use Rattle.std.specs.List.{AllByRecursion}
+use Rattle.kallsyms.specs.Ends.{clean}
 use Rattle.kallsyms.specs.Line.{GoodLine}
 use Rattle.kallsyms.specs.Means.{NoFeed, NoReturn, OneMeaning}
 use Rattle.kallsyms.specs.Cut.{lines_from, end_from}
@@ -21,13 +22,13 @@ written t (l ∷ ls) = l ++ (t ++ written t ls)
 abbrev pub WrittenLinesAreRead : Type 0
 WrittenLinesAreRead =
     (ls : List (List ℕ)) → AllByRecursion (λ l. GoodLine l × NoFeed l × NoReturn l) ls
-    → (lines_from 1 (written (10 ∷ []) ls) ≡ ls) × (end_from 1 (written (10 ∷ []) ls) ≡ Ok tt)
+    → (lines_from 1 (written (10 ∷ []) ls) ≡ ls) × (end_from 1 (written (10 ∷ []) ls) ≡ clean)
 
 -- and with bytes 13 and 10 after each, a line may have a byte 13 at its end too
 abbrev pub ReturnedLinesAreRead : Type 0
 ReturnedLinesAreRead =
     (ls : List (List ℕ)) → AllByRecursion (λ l. GoodLine l × NoFeed l) ls
-    → (lines_from 1 (written (13 ∷ 10 ∷ []) ls) ≡ ls) × (end_from 1 (written (13 ∷ 10 ∷ []) ls) ≡ Ok tt)
+    → (lines_from 1 (written (13 ∷ 10 ∷ []) ls) ≡ ls) × (end_from 1 (written (13 ∷ 10 ∷ []) ls) ≡ clean)
 
 -- every line splits into the fields that are found in it, and into no others
 abbrev pub LinesHaveOneListOfFields : Type 0

@@ -3,7 +3,7 @@ use Rattle.std.proofs.Common.{rules, ◌≡◌, ℕ, true, List, map, is_ok, Som
 use Rattle.std.specs.Option.{option_or}
 use Rattle.std.specs.List.{list_any}
 use Rattle.std.proofs.lemmas.Bool.{cond-true, cond-false, cond_both, false≢true, cases_Bool, and_left}
-use Rattle.kallsyms.specs.declared.ends.End.{End}
+use Rattle.kallsyms.specs.Ends.{End}
 use Rattle.model.specs.Externs.{Extern}
 use Rattle.model.specs.Lines.{Line, said}
 use Rattle.model.specs.Lists.{In, first}

@@ -5,8 +5,7 @@ use Rattle.std.proofs.lemmas.Bool.{cond-true, cond-false, cond_both, both_ways, 
 use Rattle.std.specs.Str.{bytes_eq}
 use Rattle.std.proofs.lemmas.Option.{none-some}
 use Rattle.std.proofs.lemmas.Slice.Eq.{bytes_eq-Decides}
-use Rattle.kallsyms.specs.declared.ends.End.{End}
-use Rattle.kallsyms.specs.declared.ends.End.TheVariants.{Clean, Broken}
+use Rattle.kallsyms.specs.Ends.{End, clean}
 use Rattle.model.specs.Externs.{Extern}
 use Rattle.model.specs.Laws.{TypedCondition, Wanted, FindsRow, LinesAnswer, LineCondition}
 use Rattle.model.specs.Lines.{Line, said, first_address}
@@ -42,7 +41,7 @@ judged rows ls e r o h i w j = search (rules, none_first, lines_parts, any_in, b
 pub not_missing : (ls : List Line) (r : Extern) → missing_refusal ls r ≡ None → wanted r ≡ true → r.weak ≡ false → first_address r.name ls ≡ 0 → ⊥
 not_missing ls r h w s z = search rules
 
-end_clean : (e : End) → end_refusal e ≡ None → e ≡ Clean
+end_clean : (e : End) → end_refusal e ≡ None → e ≡ clean
 end_clean e h = search rules
 
 -- ---- the two conditions, of rows that calls have changed and that W says are wanted

@@ -3,8 +3,7 @@ use Rattle.std.proofs.Common.{rules, ◌≡◌, ℕ, suc, Bool, true, false, con
 use Rattle.std.specs.Option.{option_or}
 use Rattle.std.proofs.lemmas.Bool.{cond_both, eq-eqb, true≢false}
 use Rattle.std.proofs.lemmas.Option.{same_Some}
-use Rattle.kallsyms.specs.declared.ends.End.{End}
-use Rattle.kallsyms.specs.declared.ends.End.TheVariants.{Clean, Broken}
+use Rattle.kallsyms.specs.Ends.{End}
 use Rattle.model.specs.Externs.{Extern}
 use Rattle.model.specs.Fixup.{fix_refusal_for}
 use Rattle.model.specs.Lines.{Line, said}

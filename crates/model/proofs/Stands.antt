@@ -8,7 +8,7 @@ use Rattle.std.proofs.lemmas.Option.{none-some, same_Some}
 use Rattle.std.proofs.lemmas.Slice.Eq.{bytes_eq-Decides}
 use Rattle.kallsyms.specs.Address.{address, number, unsigned, limited}
 use Rattle.kallsyms.specs.Fields.{fields, field}
-use Rattle.kallsyms.specs.declared.ends.End.{End}
+use Rattle.kallsyms.specs.Ends.{End}
 use Rattle.model.specs.Collected.{Distinct, object_fits}
 use Rattle.model.specs.Externs.{Extern, extern_named, resolved_to, addressed}
 use Rattle.model.specs.Laws.{Lists, address_in, address_of, Holds, LoadsHold, Stands}

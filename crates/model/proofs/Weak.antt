@@ -3,7 +3,7 @@ use Rattle.std.proofs.Common.{rules, ◌≡◌, ℕ, suc, ◌/◌, Bool, true, f
 use Rattle.std.specs.Str.{bytes_eq}
 use Rattle.std.proofs.lemmas.Bool.{cond-true, cond-false, cond_both, cases_Bool, and_from, and_left, and_right, or_left}
 use Rattle.std.proofs.lemmas.Option.{none-some}
-use Rattle.kallsyms.specs.declared.ends.End.{End}
+use Rattle.kallsyms.specs.Ends.{End}
 use Rattle.model.specs.Collect.{collect, section_of}
 use Rattle.model.specs.Collected.{declares, distinct, found_fits, externs_fit, collected_if_any, object_fits}
 use Rattle.model.specs.Externs.{Extern, Object, resolved_to}

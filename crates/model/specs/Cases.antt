@@ -1,7 +1,7 @@
 -- Worked cases, by computing: a probe that declares a strong typeless variable and a weak function. Assumes nothing.
 use Rattle.std.specs.Prelude.{◌≡◌, ℕ, ◌+◌, Bool, true, false, List, [], ◌∷◌, ◌++◌, map, length, take, replicate, ℤ, pos, negsuc, Some, None, Ok, Err, codes, Option}
 use Rattle.std.specs.List.{range_with_len}
-use Rattle.kallsyms.specs.declared.ends.End.TheVariants.{Clean, Broken}
+use Rattle.kallsyms.specs.Ends.{clean}
 use Rattle.kallsyms.specs.declared.ends.Fault.TheVariants.{LineTooLong}
 use Rattle.model.specs.Added.{int_row, placeholder_row}
 use Rattle.model.specs.Chain.{no_row, resolve_type}
@@ -184,7 +184,7 @@ typed_other = record weak_other { typed = Some 5; weak = false }
 
 -- ---- calls
 abbrev pub reading : List (List ℕ) → Step
-reading ls = resolve None ls Clean
+reading ls = resolve None ls clean
 
 -- a catalogue of one row
 abbrev pub catalogue : List ℕ → CatalogueKind → Bool → Option Catalogue
@@ -388,28 +388,28 @@ pub record WorkedCases : Type 0 where
   pub equal_again : answer (reading (at_a0 ∷ at_zero ∷ at_a0 ∷ [])) start ≡ Ok tt
   pub unread : refusal (reading (at_a0 ∷ codes "zz d card_q" ∷ [])) start ≡ Some (KallsymsParseError 0 2)
   pub unwanted : answer (reading (at_a0 ∷ codes "zz d other" ∷ [])) start ≡ Ok tt
-  pub fault : refusal (resolve None (at_a0 ∷ []) (Broken (LineTooLong 2))) start ≡ Some (KallsymsAccessError (LineTooLong 2))
-  pub clash_before_fault : refusal (resolve None (at_a0 ∷ at_b0 ∷ []) (Broken (LineTooLong 3))) start ≡ Some (AmbiguousResolution 0 (span 8 6) 2 160 176)
-  pub fault_before_missing : refusal (resolve None [] (Broken (LineTooLong 1))) start ≡ Some (KallsymsAccessError (LineTooLong 1))
+  pub fault : refusal (resolve None (at_a0 ∷ []) (Err (LineTooLong 2))) start ≡ Some (KallsymsAccessError (LineTooLong 2))
+  pub clash_before_fault : refusal (resolve None (at_a0 ∷ at_b0 ∷ []) (Err (LineTooLong 3))) start ≡ Some (AmbiguousResolution 0 (span 8 6) 2 160 176)
+  pub fault_before_missing : refusal (resolve None [] (Err (LineTooLong 1))) start ≡ Some (KallsymsAccessError (LineTooLong 1))
   pub only_zero : refusal (reading (at_zero ∷ [])) start ≡ Some (VariableNotFound 0 (span 8 6))
-  pub not_read_again : answers (reading (at_a0 ∷ []) ∷ resolve None (at_a0 ∷ at_b0 ∷ []) (Broken (LineTooLong 3)) ∷ []) start ≡ Ok tt ∷ Ok tt ∷ []
+  pub not_read_again : answers (reading (at_a0 ∷ []) ∷ resolve None (at_a0 ∷ at_b0 ∷ []) (Err (LineTooLong 3)) ∷ []) start ≡ Ok tt ∷ Ok tt ∷ []
   pub kept : address_of (codes "card_q") (runs (reading (at_a0 ∷ []) ∷ reading (at_b0 ∷ []) ∷ []) start) ≡ Some 160
   pub weak_missing : answer (reading []) (with_externs (weak_card ∷ [])) ≡ Ok tt
   pub weak_later : address_of (codes "card_q") (runs (reading [] ∷ reading (at_a0 ∷ []) ∷ []) (with_externs (weak_card ∷ []))) ≡ Some 160
-  pub typed_first : refusal (resolve None [] (Broken (LineTooLong 1))) (with_externs (card ∷ strong_probe ∷ [])) ≡ Some (TypedKsymRequiresKernelBtf 1)
-  pub no_function : refusal (resolve (catalogue (codes "probe") catalogued.Var true) (at_a0 ∷ []) Clean) (with_externs (strong_probe ∷ [])) ≡ Some (FunctionNotFound 0 (span 15 5))
-  pub whole_name_not_found : refusal (resolve (catalogue (codes "probe___v2") catalogued.Func true) [] Clean) (with_externs (strong_probe ∷ [])) ≡ Some (FunctionNotFound 0 (span 15 5))
-  pub unfit_function : refusal (resolve (catalogue (codes "probe") catalogued.Func false) [] Clean) (with_externs (strong_probe ∷ [])) ≡ Some (IncompatibleFunctionSignature 0 (span 15 5))
-  pub no_variable : refusal (resolve (catalogue (codes "card") catalogued.Var true) [] Clean) (with_externs (typed_card ∷ [])) ≡ Some (VariableNotFound 0 (span 8 6))
-  pub unfit_variable : refusal (resolve (catalogue (codes "card_q") catalogued.Var false) [] Clean) (with_externs (typed_card ∷ [])) ≡ Some (IncompatibleVariableType 0 (span 8 6))
-  pub variable_by_whole_name : refusal (resolve (catalogue (codes "probe___v2") catalogued.Var true) [] Clean) (with_externs (typed_other ∷ [])) ≡ None
-  pub unfit_not_taken : (next (resolve (catalogue (codes "probe") catalogued.Func false) [] Clean) (with_externs (weak_probe ∷ []))).object.externs ≡ record weak_probe { address = Some 0 } ∷ []
+  pub typed_first : refusal (resolve None [] (Err (LineTooLong 1))) (with_externs (card ∷ strong_probe ∷ [])) ≡ Some (TypedKsymRequiresKernelBtf 1)
+  pub no_function : refusal (resolve (catalogue (codes "probe") catalogued.Var true) (at_a0 ∷ []) clean) (with_externs (strong_probe ∷ [])) ≡ Some (FunctionNotFound 0 (span 15 5))
+  pub whole_name_not_found : refusal (resolve (catalogue (codes "probe___v2") catalogued.Func true) [] clean) (with_externs (strong_probe ∷ [])) ≡ Some (FunctionNotFound 0 (span 15 5))
+  pub unfit_function : refusal (resolve (catalogue (codes "probe") catalogued.Func false) [] clean) (with_externs (strong_probe ∷ [])) ≡ Some (IncompatibleFunctionSignature 0 (span 15 5))
+  pub no_variable : refusal (resolve (catalogue (codes "card") catalogued.Var true) [] clean) (with_externs (typed_card ∷ [])) ≡ Some (VariableNotFound 0 (span 8 6))
+  pub unfit_variable : refusal (resolve (catalogue (codes "card_q") catalogued.Var false) [] clean) (with_externs (typed_card ∷ [])) ≡ Some (IncompatibleVariableType 0 (span 8 6))
+  pub variable_by_whole_name : refusal (resolve (catalogue (codes "probe___v2") catalogued.Var true) [] clean) (with_externs (typed_other ∷ [])) ≡ None
+  pub unfit_not_taken : (next (resolve (catalogue (codes "probe") catalogued.Func false) [] clean) (with_externs (weak_probe ∷ []))).object.externs ≡ record weak_probe { address = Some 0 } ∷ []
   pub resolved_not_judged : refusal (reading (at_a0 ∷ at_b0 ∷ [])) (with_externs (found_card ∷ weak_other ∷ [])) ≡ None
-  pub bad_catalogue : refusal (resolve (Some (record { rows = record { name = span 1 1; kind = catalogued.Var; id = 0; fits = true } ∷ []; names = 0 ∷ [] })) [] Clean) start ≡ Some InvalidTable
+  pub bad_catalogue : refusal (resolve (Some (record { rows = record { name = span 1 1; kind = catalogued.Var; id = 0; fits = true } ∷ []; names = 0 ∷ [] })) [] clean) start ≡ Some InvalidTable
   pub left_over : left_unread None (at_a0 ∷ at_b0 ∷ at_zero ∷ []) (card ∷ []) ≡ at_zero ∷ []
   pub all_read : left_unread None (at_a0 ∷ at_zero ∷ []) (card ∷ []) ≡ []
   pub none_read : left_unread None (at_a0 ∷ []) (weak_probe ∷ []) ≡ at_a0 ∷ []
-  pub first_of_two : refusal (resolve two_rows (at_a0 ∷ []) Clean) start ≡ None
+  pub first_of_two : refusal (resolve two_rows (at_a0 ∷ []) clean) start ≡ None
   pub tables_first : answer (reading (at_a0 ∷ at_b0 ∷ [])) (with_externs (card ∷ card ∷ [])) ≡ Err (record { call = made_by.Resolve; reason = InvalidTable })
   pub typed_refused_unread : left_unread None (at_a0 ∷ []) (card ∷ strong_probe ∷ []) ≡ at_a0 ∷ []
   -- fixup
@@ -446,11 +446,11 @@ pub record WorkedCases : Type 0 where
   pub read_layout : slots (0x18 ∷ 0x21 ∷ 0xfe ∷ 0xff ∷ 0x78 ∷ 0x56 ∷ 0x34 ∷ 0x12 ∷ []) ≡ record { code = 0x18; regs = 0x21; off = negsuc 1; imm = pos 0x12345678 } ∷ []
   pub registers : (dst_reg (slot 0) ≡ 1) × (src_reg (slot 0) ≡ 0)
   -- relocation
-  pub first_id : code_after (resolve two_rows (at_a0 ∷ []) Clean ∷ relocating 4 (at 32 3 ∷ []) ∷ []) start ≡ slot 0x18 ∷ slot 0 ∷ patched_slot 0x85 33 (pos 0) (pos 77) ∷ slot 0x18 ∷ []
-  pub id_before_zero : code_after (reading (at_a0 ∷ []) ∷ resolve two_rows [] Clean ∷ relocating 4 (at 16 3 ∷ []) ∷ []) start ≡ patched_slot 0x18 49 (pos 5) (pos 77) ∷ patched_slot 0 1 (pos 5) (pos 0) ∷ slot 0x85 ∷ slot 0x18 ∷ []
+  pub first_id : code_after (resolve two_rows (at_a0 ∷ []) clean ∷ relocating 4 (at 32 3 ∷ []) ∷ []) start ≡ slot 0x18 ∷ slot 0 ∷ patched_slot 0x85 33 (pos 0) (pos 77) ∷ slot 0x18 ∷ []
+  pub id_before_zero : code_after (reading (at_a0 ∷ []) ∷ resolve two_rows [] clean ∷ relocating 4 (at 16 3 ∷ []) ∷ []) start ≡ patched_slot 0x18 49 (pos 5) (pos 77) ∷ patched_slot 0 1 (pos 5) (pos 0) ∷ slot 0x85 ∷ slot 0x18 ∷ []
   pub two_functions : code_after (relocating_two (at 16 3 ∷ at 32 3 ∷ []) ∷ []) start ≡ patched_slot 0x18 1 (pos 5) (pos 0) ∷ patched_slot 0 1 (pos 5) (pos 0) ∷ patched_slot 0x85 0 (pos 0) (pos 2002000003) ∷ slot 0x18 ∷ []
   pub other_section : code_after (relocating 4 (record { section = 6; offset = 32; symbol = 3 } ∷ []) ∷ []) start ≡ slot 0x18 ∷ slot 0 ∷ slot 0x85 ∷ slot 0x18 ∷ []
-  pub patched_again : code_after (relocating 4 (at 32 3 ∷ []) ∷ resolve two_rows (at_a0 ∷ []) Clean ∷ relocating 4 (at 32 3 ∷ []) ∷ []) start ≡ slot 0x18 ∷ slot 0 ∷ patched_slot 0x85 32 (pos 0) (pos 77) ∷ slot 0x18 ∷ []
+  pub patched_again : code_after (relocating 4 (at 32 3 ∷ []) ∷ resolve two_rows (at_a0 ∷ []) clean ∷ relocating 4 (at 32 3 ∷ []) ∷ []) start ≡ slot 0x18 ∷ slot 0 ∷ patched_slot 0x85 32 (pos 0) (pos 77) ∷ slot 0x18 ∷ []
   pub relocate_tables_first : answer (relocating 5 []) start ≡ Err (record { call = made_by.Relocate; reason = InvalidTable })
   pub load : code_after (reading (codes "ffffffff81234568 d card_q" ∷ []) ∷ relocating 4 (at 16 2 ∷ []) ∷ []) start
       ≡ patched_slot 0x18 1 (pos 5) (negsuc 2128394903) ∷ patched_slot 0 1 (pos 5) (negsuc 0) ∷ slot 0x85 ∷ slot 0x18 ∷ []
@@ -458,8 +458,8 @@ pub record WorkedCases : Type 0 where
       ≡ patched_slot 0x18 1 (pos 5) (negsuc 1698898191) ∷ patched_slot 0 1 (pos 5) (pos 305419896) ∷ slot 0x85 ∷ slot 0x18 ∷ []
   pub poison : code_after (relocating 4 (at 32 3 ∷ []) ∷ []) start ≡ slot 0x18 ∷ slot 0 ∷ patched_slot 0x85 0 (pos 0) (pos 2002000003) ∷ slot 0x18 ∷ []
   pub poison_wraps : code_after (relocating 4 (at 32 145483648 ∷ []) ∷ []) start ≡ slot 0x18 ∷ slot 0 ∷ patched_slot 0x85 0 (pos 0) (negsuc 2147483647) ∷ slot 0x18 ∷ []
-  pub call : code_after (resolve (catalogue (codes "probe") catalogued.Func true) (at_a0 ∷ []) Clean ∷ relocating 4 (at 32 3 ∷ []) ∷ []) start ≡ slot 0x18 ∷ slot 0 ∷ patched_slot 0x85 33 (pos 0) (pos 77) ∷ slot 0x18 ∷ []
-  pub load_id : code_after (resolve (catalogue (codes "probe") catalogued.Func true) (at_a0 ∷ []) Clean ∷ relocating 4 (at 16 3 ∷ []) ∷ []) start ≡ patched_slot 0x18 49 (pos 5) (pos 77) ∷ patched_slot 0 1 (pos 5) (pos 0) ∷ slot 0x85 ∷ slot 0x18 ∷ []
+  pub call : code_after (resolve (catalogue (codes "probe") catalogued.Func true) (at_a0 ∷ []) clean ∷ relocating 4 (at 32 3 ∷ []) ∷ []) start ≡ slot 0x18 ∷ slot 0 ∷ patched_slot 0x85 33 (pos 0) (pos 77) ∷ slot 0x18 ∷ []
+  pub load_id : code_after (resolve (catalogue (codes "probe") catalogued.Func true) (at_a0 ∷ []) clean ∷ relocating 4 (at 16 3 ∷ []) ∷ []) start ≡ patched_slot 0x18 49 (pos 5) (pos 77) ∷ patched_slot 0 1 (pos 5) (pos 0) ∷ slot 0x85 ∷ slot 0x18 ∷ []
   pub load_zero : code_after (relocating 4 (at 16 3 ∷ []) ∷ []) start ≡ patched_slot 0x18 1 (pos 5) (pos 0) ∷ patched_slot 0 1 (pos 5) (pos 0) ∷ slot 0x85 ∷ slot 0x18 ∷ []
   pub last_slot : refusal (relocating 4 (at 32 3 ∷ at 40 3 ∷ [])) start ≡ Some (InvalidRelocationOffset 1)
   pub last_slot_kept : code_after (relocating 4 (at 32 3 ∷ at 40 3 ∷ []) ∷ []) start ≡ slot 0x18 ∷ slot 0 ∷ patched_slot 0x85 0 (pos 0) (pos 2002000003) ∷ slot 0x18 ∷ []

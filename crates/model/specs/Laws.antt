@@ -1,8 +1,7 @@
 -- The laws of every list of calls on a collected object. Assumes nothing.
 use Rattle.std.specs.Prelude.{◌≡◌, ℕ, suc, ◌+◌, ◌<◌, Bool, true, false, ◌||◌, ◌⊎◌, ◌↔◌, List, [], ◌∷◌, ◌++◌, map, is_some, Some, None, Ok, Err, Option, ◌≢◌}
 use Rattle.std.specs.List.{AllByRecursion}
-use Rattle.kallsyms.specs.declared.ends.End.{End}
-use Rattle.kallsyms.specs.declared.ends.End.TheVariants.{Clean}
+use Rattle.kallsyms.specs.Ends.{End, clean}
 use Rattle.model.specs.Collect.{collect}
 use Rattle.model.specs.Collected.{object_fits}
 use Rattle.model.specs.Externs.{Extern, Object, extern_named}
@@ -63,7 +62,7 @@ TypedCondition c xs = (x : Extern) → In x xs → strong_typed x ≡ true → F
 -- the source ends clean, every line with a wanted name has an address that reads, the nonzero ones of a name are equal,
 -- and each strong wanted name has one
 pub record LinesAnswer (W : Extern → Type 0) (xs : List Extern) (ls : List (List ℕ)) (e : End) : Type 0 where
-  pub clean : e ≡ Clean
+  pub clean : e ≡ clean
   pub reads : (x : Extern) (o : Option ℕ) → In x xs → W x → In (line x.name o) (map said ls) → is_some o ≡ true
   pub equal : (x : Extern) (a b : ℕ) → In x xs → W x → Lists ls x.name a → Lists ls x.name b → a ≡ b
   pub strong : (x : Extern) → In x xs → W x → x.weak ≡ false → (a : ℕ) × Lists ls x.name a

@@ -1,7 +1,7 @@
 -- Which lines a resolution reads, and which line it is refused for. Assumes nothing.
 use Rattle.std.specs.Prelude.{◌≡◌, ℕ, true, false, ◌⊎◌, List, [], ◌∷◌, ◌++◌, map, length, is_some, None, Option}
 use Rattle.std.specs.List.{list_any}
-use Rattle.kallsyms.specs.declared.ends.End.{End}
+use Rattle.kallsyms.specs.Ends.{End}
 use Rattle.model.specs.Externs.{Extern}
 use Rattle.model.specs.Lines.{said}
 use Rattle.model.specs.Lists.{In, first, numbered}

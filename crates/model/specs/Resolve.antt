@@ -1,10 +1,9 @@
 -- What resolution answers and sets. Assumes nothing.
-use Rattle.std.specs.Prelude.{ℕ, Bool, cond, not, ◌&&◌, ◌||◌, List, [], ◌∷◌, map, is_some, Some, None, Option, ◌==◌}
+use Rattle.std.specs.Prelude.{ℕ, Bool, cond, not, ◌&&◌, ◌||◌, List, [], ◌∷◌, map, is_some, Some, None, Option, ◌==◌, Ok, Err}
 use Rattle.std.specs.Option.{option_or}
 use Rattle.std.specs.List.{list_any}
 use Rattle.std.specs.Str.{bytes_eq}
-use Rattle.kallsyms.specs.declared.ends.End.{End}
-use Rattle.kallsyms.specs.declared.ends.End.TheVariants.{Clean, Broken}
+use Rattle.kallsyms.specs.Ends.{End}
 use Rattle.kallsyms.specs.Line.{number_after}
 use Rattle.model.specs.Externs.{Extern, whole_name, essential_name, resolved_to, addressed}
 use Rattle.model.specs.Lines.{Line, said, first_address}
@@ -86,8 +85,8 @@ line_refusal xs ls short = None
 
 -- a fault refuses
 abbrev pub end_refusal : End → Option Reason
-end_refusal Clean = None
-end_refusal (Broken f) = Some (KallsymsAccessError f)
+end_refusal (Ok tt) = None
+end_refusal (Err f) = Some (KallsymsAccessError f)
 
 -- after the last line, a strong wanted extern must have a nonzero address
 abbrev pub missing_refusal : List Line → Extern → Option (ℕ → Reason)

@@ -1,6 +1,6 @@
 -- The calls on a collected object, and lists of them. Assumes nothing.
 use Rattle.std.specs.Prelude.{ℕ, Bool, true, cond, ◌&&◌, List, [], ◌∷◌, map, is_ok, Some, None, Ok, Err, Option, Result}
-use Rattle.kallsyms.specs.declared.ends.End.{End}
+use Rattle.kallsyms.specs.Ends.{End}
 use Rattle.model.specs.Collected.{object_fits}
 use Rattle.model.specs.Externs.{Object}
 use Rattle.model.specs.Fixup.{fix_refusal, fixed}

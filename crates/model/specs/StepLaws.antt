@@ -1,7 +1,7 @@
 -- What one call changes, and what it leaves. Assumes nothing.
 use Rattle.std.specs.Prelude.{◌≡◌, ℕ, ◌+◌, ◌<◌, ◌≤◌, true, false, ◌⊎◌, ◌↔◌, List, [], length, Some, Ok, Err, Option, Result, ◌≢◌, slice_index, slice_index_or}
 use Rattle.std.specs.List.{AllByRecursion}
-use Rattle.kallsyms.specs.declared.ends.End.{End}
+use Rattle.kallsyms.specs.Ends.{End}
 use Rattle.model.specs.Added.{int_name}
 use Rattle.model.specs.Chain.{type_at}
 use Rattle.model.specs.Collect.{collect, collect_object, section_of, entries_of}

@@ -1,7 +1,7 @@
 -- The texts of refusals for people. Assumes nothing.
 use Rattle.std.specs.Prelude.{ℕ, List, [], ◌++◌, Some, None, codes, decimal, Option}
 use Rattle.texts.specs.Hex.{hex_text}
-use Rattle.texts.specs.Faults.{fault_text}
+use Rattle.kallsyms.specs.Faults.{fault_text}
 use Rattle.model.specs.Refusals.{told}
 use Rattle.model.specs.declared.refusal.Call.{Call}
 use Rattle.model.specs.declared.refusal.Call.TheVariants as made_by

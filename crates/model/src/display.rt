@@ -4,7 +4,6 @@ ghost use Rattle.model.specs.Texts.{call_name, reason_name, named_text, values_t
 
 use crate::refusal::{Call, Named, Reason, Refusal};
 use std::fmt;
-use texts::faults::Wrong;
 use texts::hex::Hex;
 
 impl Call {
@@ -85,10 +84,7 @@ impl fmt::Display for Values {
             | Reason::IncompatibleFunctionSignature { row, .. }
             | Reason::VariableNotFound { row, .. }
             | Reason::IncompatibleVariableType { row, .. } => write!(f, ", extern {row}"),
-            Reason::KallsymsAccessError { fault } => {
-                let wrong = Wrong(fault);
-                write!(f, ", {wrong}")
-            }
+            Reason::KallsymsAccessError { fault } => write!(f, ", {fault}"),
             Reason::KallsymsParseError { row, line } => write!(f, ", extern {row}, line {line}"),
             Reason::AmbiguousResolution {
                 row,
