@@ -74,9 +74,9 @@ piece_found bs s i h f e g =
     let one = add-one i in
     cc
 
-pub piece_last : (bs : List ℕ) → 0 < length bs → ((k : ℕ) → k < length bs → get_or bs k 0 ≡ 10 → ⊥) → pieces bs ≡ bs ∷ pieces (take (length bs - length bs) (drop (length bs) bs))
-piece_last bs h f =
-    last_piece bs h f ∙ ap (λ l. bs ∷ pieces l) (sym (take_rest bs (length bs) ∙ drop_all (length bs) bs (omega arith)))
+pub piece_last : (bs : List ℕ) (i : ℕ) → 0 < length bs → length bs ≤ i → ((k : ℕ) → k < i → get_or bs k 0 ≡ 10 → ⊥) → pieces bs ≡ bs ∷ pieces (take (length bs - i) (drop i bs))
+piece_last bs i h g f =
+    last_piece bs h (λ k l. f k (omega arith)) ∙ ap (λ l. bs ∷ pieces l) (sym (take_rest bs i ∙ drop_all i bs g))
 
 -- bytes that are all below 128, and bytes that are not
 pub ascii_plain : (bs : List ℕ) → IsAscii bs → plain bs ≡ true

@@ -43,24 +43,37 @@ fn stripped(piece: &[u8]) -> &[u8]
     piece.strip_suffix(b"\r").unwrap_or(piece)
 }
 
+// The index of the first line feed, or the length.
+fn line_feed(bytes: &[u8]) -> usize
+    ensures within { result ≤ length bytes.now }
+    ensures before { (k : ℕ) → k < result → slice_index bytes.now k ≢ 10 }
+    ensures found { result < length bytes.now → slice_index bytes.now result ≡ 10 }
+{
+    memchr(b'\n', bytes).unwrap_or(bytes.len())
+}
+
 // The first piece of a text that is not empty.
+#[tactic(auto, using(crate::proofs::Pieced::piece_last))]
 fn first_piece(bytes: &[u8]) -> Piece<'_>
     requires { 0 < length bytes.now }
     ensures cut { pieces bytes.now ≡ result.bytes.now ∷ pieces result.rest.now }
 {
-    match memchr(b'\n', bytes) {
-        Some(at) => Piece {
+    let at = line_feed(bytes);
+    if at < bytes.len() {
+        Piece {
             bytes: stripped(&bytes[..at]),
             rest: &bytes[at + 1..],
-        },
-        None => Piece {
+        }
+    } else {
+        Piece {
             bytes,
-            rest: &bytes[bytes.len()..],
-        },
+            rest: &bytes[at..],
+        }
     }
 }
 
 // Whether the piece at a line number is a line, or else its fault.
+#[tactic(auto, using(crate::proofs::Pieced::ascii_plain, crate::proofs::Pieced::not_plain))]
 fn judged(line: u64, piece: &[u8]) -> End
     ensures { result ≡ verdict line piece.now }
 {

@@ -1,5 +1,5 @@
 -- What is written into a map of names. Assumes nothing.
-use Rattle.std.proofs.Common.{◌≡◌, ℕ, ◌≤◌, Bool, List, map, length, Some, None, Option, Bor, refl, sym, ap, subst, ◌∙◌}
+use Rattle.std.proofs.Common.{◌≡◌, ℕ, ◌≤◌, Bool, List, [], map, length, Some, None, Option, Bor, sym, ap, subst, ◌∙◌, arith}
 use Rattle.std.proofs.lemmas.Bool.{cond-true, cond-false, false_from_ne_true}
 use Rattle.std.proofs.lemmas.Map.Made.{lookup-map_values, keys_of-map_values}
 use Rattle.std.proofs.lemmas.Map.Text.{btree_map_updates_str}
@@ -14,6 +14,7 @@ use Rattle.kallsyms.specs.Fields.{fields, field}
 use Rattle.lookup.specs.After.{after}
 use Rattle.lookup.specs.LookedUp.{Sightings, sighting_of}
 use Rattle.lookup.specs.Noted.{Notes}
+use Rattle.lookup.specs.Says.{Says}
 use Rattle.lookup.specs.declared.sighting.Sighting.{Sighting}
 use Rattle.lookup.specs.declared.sighting.Sighting.TheVariants.{Unlisted}
 
@@ -36,15 +37,15 @@ notes_from_update n l name s old new three is was same updates =
       others = λ q no. now q ∙ cond-false _ _ _ (false_from_ne_true _ (λ t. no (three, sym is ∙ (bytes_eq-Decides name q).0 t)));
     }
 
-unlisted : (o : Option Sighting) → IfSome (option_map (λ _. Unlisted) o) (λ s. s ≡ Unlisted)
-unlisted None = tt
-unlisted (Some s) = refl
+unlisted : (name : List ℕ) (o : Option Sighting) → IfSome (option_map (λ _. Unlisted) o) (Says [] name)
+unlisted name None = tt
+unlisted name (Some s) = λ j a lt g. absurd (omega arith)
 
--- where each value was made so, the names stay, and every one is unlisted
-pub all_unlisted : (old new : Sightings) → new.entries ≡ map (λ e. (e.0, Unlisted)) old.entries → (keys new ≡ keys old) × ((name : List ℕ) → IfSome (sighting_of new name) (λ s. s ≡ Unlisted))
+-- where each value was made so, the names stay, and no lines say so of each
+pub all_unlisted : (old new : Sightings) → new.entries ≡ map (λ e. (e.0, Unlisted)) old.entries → (keys new ≡ keys old) × ((name : List ℕ) → IfSome (sighting_of new name) (Says [] name))
 all_unlisted old new e =
-    let says : (name : List ℕ) → IfSome (sighting_of new name) (λ s. s ≡ Unlisted) =
+    let says : (name : List ℕ) → IfSome (sighting_of new name) (Says [] name) =
     λ name.
     let test : Bor (List ℕ) → Bool = is_at (λ k. slice_cmp nat_cmp name k.now) in
-    subst (λ o. IfSome o (λ s. s ≡ Unlisted)) (sym (ap (lookup test) e ∙ lookup-map_values (λ _. Unlisted) test old.entries)) (unlisted (lookup test old.entries)) in
+    subst (λ o. IfSome o (Says [] name)) (sym (ap (lookup test) e ∙ lookup-map_values (λ _. Unlisted) test old.entries)) (unlisted name (lookup test old.entries)) in
     (ap keys_of e ∙ keys_of-map_values (λ _. Unlisted) old.entries, says)

@@ -3,6 +3,7 @@ ghost use Rattle.std.specs.Prelude.{◌≡◌, ℕ, List, [], IfSome};
 ghost use Rattle.std.specs.BTreeMap.{keys};
 ghost use Rattle.lookup.specs.LookedUp.{LookedUp, sighting_of};
 ghost use Rattle.lookup.specs.Noted.{Notes};
+ghost use Rattle.lookup.specs.Says.{Says};
 
 use crate::sighting::Sighting;
 use kallsyms::address::read_address;
@@ -32,10 +33,10 @@ pub struct Reading {
     pub end: End,
 }
 
-// Leaves every name unlisted.
+// Leaves every name unlisted, which is what no lines say of it.
 fn unlist(sightings: &mut BTreeMap<&[u8], Sighting>)
     ensures names { keys sightings.new ≡ keys sightings.old }
-    ensures unlisted { (name : List ℕ) → IfSome (sighting_of sightings.new name) (λ s. s ≡ Sighting.Unlisted) }
+    ensures says { (name : List ℕ) → IfSome (sighting_of sightings.new name) (Says [] name) }
 {
     sightings.retain(|_, sighting| {
         *sighting = Sighting::Unlisted;

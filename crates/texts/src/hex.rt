@@ -11,6 +11,7 @@ pub struct Hex(pub u64);
 impl fmt::Display for Hex {
     ghost output = { λ h. Some (hex_text h.0) };
 
+    #[tactic(auto, using(crate::proofs::Padded::sixteen))]
     fn fmt<W: fmt::Write>(&self, f: &mut fmt::Formatter<W>) -> fmt::Result {
         let number = self.0;
         write!(f, "0x{number:016x}")

@@ -1,20 +1,7 @@
-use Rattle.std.proofs.Common.{[], ◌∷◌, ◌++◌, refl, sym, subst, ◌∙◌, append_assoc, length-append, arith}
-use Rattle.std.proofs.lemmas.Option.{IfSome_then}
+use Rattle.std.proofs.Common.{[], ◌∷◌, ◌++◌, ◌∙◌, append_assoc, length-append, arith}
 use Rattle.kallsyms.proofs.Stepped.{at_line, line_in}
-use Rattle.lookup.specs.LookedUp.{sighting_of}
-use Rattle.lookup.specs.Says.{Says}
 use Rattle.lookup.proofs.Saying.{notes_say}
 use Rattle.lookup.proofs.scan.look_up.Goals as goal
-
-pub lines-init : goal.lines-init
-lines-init g c = record {
-  read = [];
-  whole = refl;
-  counted = refl;
-  names = c.unlist.ensures.names;
-  says = λ name. IfSome_then (sighting_of c.unlist.new.sightings name) (c.unlist.ensures.unlisted name) (λ s e. subst (Says [] name) (sym e) (λ j a lt g. absurd (omega arith)));
-  end = refl;
-}
 
 pub lines-preserved : goal.lines-preserved
 lines-preserved g c =

@@ -8,4 +8,4 @@ pub returns : goal.returns
 returns c =
     let entries = map_same_pairs _ (λ _. Unlisted) _ (λ k v b w f' t. search rules) c.args.sightings.now.entries c.retain.new.self.entries c.retain.ensures.filtered in
     let cleared = all_unlisted c.args.sightings.now c.retain.new.self entries in
-    record { names = cleared.0; unlisted = cleared.1 }
+    record { names = cleared.0; says = cleared.1 }
