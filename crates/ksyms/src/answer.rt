@@ -36,7 +36,7 @@ fn asked<'a>(heap: Global, names: &'a [String]) -> Result<BTreeMap<&'a [u8], Sig
 }
 
 // What a map says of each of the names, in their order.
-fn tolds<'a>(
+fn told_of<'a>(
     heap: Global,
     names: &'a [String],
     sightings: &BTreeMap<&[u8], Sighting>,
@@ -86,6 +86,6 @@ pub fn answer(heap: Global, bytes: &[u8], names: &[String]) -> Result<String, Al
 {
     let mut sightings = asked(heap, names)?;
     let reading = look_up(&mut Text::new(bytes), &mut sightings);
-    let tolds = tolds(heap, names, &sightings)?;
+    let tolds = told_of(heap, names, &sightings)?;
     answer_text(heap, &tolds, reading)
 }

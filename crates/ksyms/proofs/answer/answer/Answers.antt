@@ -5,8 +5,8 @@ use Rattle.ksyms.proofs.Answered.{answered}
 use Rattle.ksyms.proofs.Telling.{has_same}
 use Rattle.ksyms.proofs.answer.answer.Goals as goal
 
-pub tolds-requires : goal.tolds-requires
-tolds-requires c = has_same c.args.names.now c.in_ok-sightings.sightings c.look_up-reading.new.sightings c.look_up-reading.ensures.found.names c.in_ok-sightings.ensures
+pub told_of-requires : goal.told_of-requires
+told_of-requires c = has_same c.args.names.now c.in_ok-sightings.sightings c.look_up-reading.new.sightings c.look_up-reading.ensures.found.names c.in_ok-sightings.ensures
 
 pub returns : goal.returns
 returns c =

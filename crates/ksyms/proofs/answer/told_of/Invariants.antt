@@ -1,6 +1,6 @@
 use Rattle.std.proofs.Common.{take}
 use Rattle.ksyms.specs.Tells.{Tells}
-use Rattle.ksyms.proofs.answer.tolds.Given as goal
+use Rattle.ksyms.proofs.answer.told_of.Given as goal
 
 -- the names so far are told
 abbrev pub invariant-loop-name : goal.invariant-loop-name

@@ -3,7 +3,7 @@ use Rattle.std.specs.Option.{IsSome}
 use Rattle.lookup.specs.LookedUp.{sighting_of}
 use Rattle.ksyms.specs.declared.summary.Told.{Told}
 use Rattle.ksyms.proofs.Telling.{tells_more}
-use Rattle.ksyms.proofs.answer.tolds.Goals as goal
+use Rattle.ksyms.proofs.answer.told_of.Goals as goal
 
 pub index-sighting-requires : goal.index-sighting-requires
 index-sighting-requires c =
