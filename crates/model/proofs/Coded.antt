@@ -1,9 +1,8 @@
 -- The code of a run: bytes, as many as before, that are read as the slots that relocation made.
 use Rattle.std.proofs.lemmas.Grind.{common_steps}
-use Rattle.std.proofs.Common.{rules, ◌≡◌, ℕ, zero, suc, ◌*◌, ◌/◌, ◌%◌, ◌<◌, true, List, [], ◌∷◌, length, refl, ap, ◌∙◌, arith, w16, w32}
-use borrow.Author.Gap.{read_sfits}
+use Rattle.std.proofs.Common.{rules, ◌≡◌, ℕ, suc, ◌*◌, ◌/◌, ◌%◌, ◌<◌, true, List, [], ◌∷◌, length, refl, ◌∙◌, arith}
 use Rattle.std.specs.List.{AllByRecursion}
-use Rattle.std.proofs.lemmas.Bool.{cond-true, cond_both, and_parts, eqb-true}
+use Rattle.std.proofs.lemmas.Bool.{cond_both, and_parts, eqb-true}
 use Rattle.model.specs.Relocate.{Program, relocated, taken}
 use Rattle.model.specs.Runs.{State, Step, fits, next, patched_code, runs}
 use Rattle.model.specs.Runs.Step.{resolve, fixup, relocate}

@@ -1,22 +1,22 @@
 -- Collection is granted exactly if the tables are well-formed and there is no section, or one whose entries declare externs that there is room for.
-use Rattle.std.proofs.Common.{rules, ◌≡◌, ℕ, suc, Bool, true, false, ◌&&◌, ◌||◌, ltb, leb, List, [], ◌∷◌, length, Some, None, Ok, sym, refl, ap, ◌∙◌, subst, inl, inr, ⊎_elim}
+use Rattle.std.proofs.Common.{rules, ◌≡◌, ℕ, suc, Bool, true, false, ◌&&◌, ltb, leb, List, [], ◌∷◌, length, Some, None, Ok, sym, refl, ap, ◌∙◌, subst, inl, inr, ⊎_elim}
 use Rattle.std.specs.List.{list_any}
 use Rattle.std.specs.Str.{bytes_eq}
 use Rattle.std.proofs.lemmas.Bool.{true≢false, cases_Bool, cond-true, cond-false, and_from, lt-ltb, leb-true, le-leb}
-use Rattle.std.proofs.lemmas.Option.{none-some, same_Some}
+use Rattle.std.proofs.lemmas.Option.{same_Some}
 use Rattle.model.specs.Added.{first_int, with_int, with_placeholder, room_for_placeholder}
 use Rattle.model.specs.Chain.{type_at}
-use Rattle.model.specs.Collect.{section_of, entries_of, has_func, fresh, chain_read, symbol_read, name_read, entry_read, duplicate, room_for_func, room_refusal, made, granted_unless, collect_rows, collect_entries, collect_section, collect}
+use Rattle.model.specs.Collect.{section_of, entries_of, has_func, entry_read, duplicate, room_for_func, room_refusal, made, granted_unless, collect_rows, collect_entries, collect_section, collect}
 use Rattle.model.specs.CollectLaws.{Declares, Section, CollectedExactlyWhen}
 use Rattle.model.specs.Collected.{Distinct}
 use Rattle.model.specs.Externs.{Extern, Object}
-use Rattle.model.specs.Kinds.{is_func, is_var}
+use Rattle.model.specs.Kinds.{is_func}
 use Rattle.model.specs.Lists.{In, with_first, each, InTurn}
 use Rattle.model.specs.Tables.{Tables, Symbols, MAX_EXTERNS, tables_fit, symbols_fit}
 use Rattle.model.specs.declared.btf.BtfType.{BtfType}
 use Rattle.model.specs.declared.btf.DataSecEntry.{DataSecEntry}
 use Rattle.model.proofs.Lookups.{ok_same, or_else_from, none_any, not_same}
-use Rattle.model.proofs.Collects.{each_turn, entry_declared, entry_is, no_func, some_func, names_apart, Passed, collect_fits, collect_passed, made_externs}
+use Rattle.model.proofs.Collects.{each_turn, entry_is, no_func, some_func, names_apart, Passed, collect_fits, collect_passed}
 use Rattle.model.proofs.TablesTested.{tables_are_tested}
 
 -- ---- distinct names are no duplicates

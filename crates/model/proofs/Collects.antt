@@ -1,22 +1,20 @@
 -- A granted collection makes a well-formed object.
 use Rattle.std.proofs.lemmas.Grind.{common_steps}
-use Rattle.std.proofs.Common.{rules, ◌≡◌, ℕ, zero, suc, ◌<◌, Bool, true, false, cond, ◌&&◌, ◌||◌, ltb, leb, ◌⊎◌, List, [], ◌∷◌, ◌++◌, length, is_some, Some, None, Ok, Err, Option, Result, sym, refl, ap, ◌∙◌, subst, inl, inr, ⊎_elim, arith}
-use Rattle.std.specs.Option.{option_or}
+use Rattle.std.proofs.Common.{rules, ◌≡◌, ℕ, suc, ◌<◌, Bool, true, false, cond, ◌||◌, ltb, leb, ◌⊎◌, List, [], ◌∷◌, length, is_some, Some, None, Ok, Err, Option, Result, sym, refl, ap, ◌∙◌, subst, inl, inr, ⊎_elim, arith}
 use Rattle.std.specs.List.{list_any}
 use Rattle.std.specs.Str.{bytes_eq}
-use Rattle.std.proofs.lemmas.List.{length_push, get_or_push, drop_at}
-use Rattle.std.proofs.lemmas.Bool.{true≢false, cases_Bool, cond-true, cond-false, and_parts, and_from, or_left, or_right, or_cases, ltb-true}
+use Rattle.std.proofs.lemmas.Bool.{true≢false, cases_Bool, cond-true, cond-false, and_from, or_left, or_right, or_cases, ltb-true}
 use Rattle.std.proofs.lemmas.Option.{none-some, same_Some}
 use Rattle.std.proofs.lemmas.Slice.Eq.{bytes_eq-Decides}
 use Rattle.model.specs.Added.{placeholder_row, placeholder_name, added, first_int, with_int}
-use Rattle.model.specs.Chain.{no_row, type_at, chain, resolve_type}
-use Rattle.model.specs.Collect.{section_of, entries_of, has_func, fresh, symbol_named, chain_read, symbol_read, name_read, row_read, entry_read, duplicate, room_for_func, room_refusal, made, granted_unless, collect_rows, collect_entries, collect_section, collect}
+use Rattle.model.specs.Chain.{type_at, chain, resolve_type}
+use Rattle.model.specs.Collect.{section_of, entries_of, has_func, fresh, symbol_named, chain_read, symbol_read, name_read, row_read, entry_read, duplicate, room_for_func, room_refusal, made, collect_section, collect}
 use Rattle.model.specs.CollectLaws.{Declares}
 use Rattle.model.specs.Collected.{Distinct, Collected, object_fits}
 use Rattle.model.specs.Externs.{Extern, Object}
 use Rattle.model.specs.Kinds.{is_func, is_var}
 use Rattle.model.specs.Lists.{In, with_first, each, InTurn}
-use Rattle.model.specs.Names.{to_zero, name_at}
+use Rattle.model.specs.Names.{name_at}
 use Rattle.model.specs.StepLaws.{CollectionCollects}
 use Rattle.model.specs.Tables.{Tables, Symbols, MAX_EXTERNS, tables_fit, symbols_fit}
 use Rattle.model.specs.declared.btf.BtfType.{BtfType}
@@ -24,7 +22,7 @@ use Rattle.model.specs.declared.btf.ChainError.{ChainError}
 use Rattle.model.specs.declared.btf.DataSecEntry.{DataSecEntry}
 use Rattle.model.specs.declared.refusal.Reason.{Reason}
 use Rattle.model.specs.declared.rows.Symbol.{Symbol}
-use Rattle.model.proofs.Lookups.{ok_same, err_not, any_none, or_else_parts}
+use Rattle.model.proofs.Lookups.{ok_same, err_not, any_none}
 use Rattle.model.proofs.Tested.{collected_test}
 use Rattle.model.proofs.Grown.{Fits, fits_is, is_fit, Longer, longer_same, longer_added, longer_on, longer_section, longer_entries, longer_name, longer_at, Declared, is_declared, longer_declared, section_is, first_below, int_longer, int_below, placeholder_fits_in}
 
@@ -160,23 +158,10 @@ pub record Passed (t : Tables) (ss : Symbols) (o : Object) : Type 0 where
 room_is : (func : Bool) (xs : List Extern) (t : Tables) → room_refusal func xs t ≡ None → (leb (length xs) MAX_EXTERNS ≡ true) × (room_for_func func t ≡ true)
 room_is func xs t h = search rules
 
-unless_is : (e : Option Reason) (x o : Object) → granted_unless e x ≡ Ok o → (e ≡ None) × (x ≡ o)
-unless_is e x o h = search rules
-
 module _ (t : Tables) (ss : Symbols) (o : Object) where
   module _ (d : ℕ) (found : section_of t ≡ Ok (Some d)) where
     abbrev at : ℕ
     at = (type_at t.types d).parts.start
-
-    rows_are : (func : Bool) → has_func t.types at (entries_of t d) ≡ Ok func
-        → (r : Result (List Extern) Reason) → each (entry_read t ss) at (entries_of t d) ≡ r → collect_rows t at func r ≡ Ok o → Passed t ss o
-    rows_are func f r2 r h = search rules
-
-    entries_are : (f : Result Bool Reason) → has_func t.types at (entries_of t d) ≡ f → collect_entries t ss at (entries_of t d) f ≡ Ok o → Passed t ss o
-    entries_are f2 f h = search rules
-
-  section_came : (r : Result (Option ℕ) Reason) → section_of t ≡ r → collect_section t ss r ≡ Ok o → ((section_of t ≡ Ok None) × (made false [] t ≡ o)) ⊎ Passed t ss o
-  section_came r s h = search rules
 
   pub collect_fits : collect t ss ≡ Ok o → (tables_fit t ≡ true) × (symbols_fit ss ≡ true) × (collect_section t ss (section_of t) ≡ Ok o)
   collect_fits h = grind (arith, common_steps)
@@ -209,10 +194,7 @@ module _ (t : Tables) (xs : List Extern) where
   made_fits false r f = f
 
   made_new : (func : Bool) (p : ℕ) → (made func xs t).placeholder ≡ Some p → New (made func xs t).tables p
-  made_new true p e =
-      let k = with_int (first_int t.types) t in
-      subst (New (made true xs t).tables) (same_Some (length k.1.types) p e) (new_placeholder k.0 k.1 (int_below t (first_int t.types) (first_below t.types)))
-  made_new false p e = absurd (none-some p e)
+  made_new func p e = grind (arith, common_steps, same_Some, new_placeholder, int_below, first_below, none-some)
 
 module _ (t : Tables) (ss : Symbols) (o : Object) (c : Passed t ss o) where
   abbrev new : Object

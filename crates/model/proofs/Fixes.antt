@@ -1,30 +1,29 @@
 -- A granted fixup keeps an object well-formed, and leaves the rows that it is not about.
 use Rattle.std.proofs.lemmas.Grind.{common_steps}
-use Rattle.std.proofs.Common.{rules, ◌≡◌, ℕ, zero, suc, ◌+◌, ◌*◌, ◌<◌, ◌≤◌, Bool, true, false, cond, not, ◌&&◌, ◌||◌, eqb, leb, ◌⊎◌, List, [], ◌∷◌, ◌++◌, map, length, get_or, take, drop, set, is_some, Some, None, Ok, Option, sym, refl, ap, ◌∙◌, subst, inl, inr, ⊎_elim, arith}
+use Rattle.std.proofs.Common.{rules, ◌≡◌, ℕ, zero, suc, ◌+◌, ◌<◌, ◌≤◌, Bool, true, false, cond, ◌||◌, eqb, leb, ◌⊎◌, List, [], ◌∷◌, ◌++◌, map, length, get_or, take, drop, set, is_some, Some, None, Ok, Option, sym, refl, ap, ◌∙◌, subst, inl, inr, ⊎_elim, arith}
 use lib.Seq.{take-nil, drop-nil}
 use Rattle.std.specs.List.{range_with_len}
-use Rattle.std.proofs.lemmas.List.{length-append, length-set, length-map, length-take, length-drop, get_or_append_left, get_or-set_other}
-use Rattle.std.proofs.lemmas.Bool.{false≢true, cond-false, cond_both, and_parts, and_from, and_left, and_right, or_cases, eqb-true, eq-eqb, ne_eqb}
-use Rattle.std.proofs.lemmas.Option.{none-some, same_Some}
+use Rattle.std.proofs.lemmas.List.{length-set, get_or_append_left}
+use Rattle.std.proofs.lemmas.Bool.{false≢true, cond_both, and_parts, and_from}
+use Rattle.std.proofs.lemmas.Option.{same_Some}
 use Rattle.model.specs.Added.{with_int}
-use Rattle.model.specs.Chain.{no_row, type_at}
+use Rattle.model.specs.Chain.{type_at}
 use Rattle.model.specs.Collect.{section_of, entries_of}
 use Rattle.model.specs.Collected.{declares, Collected, collected_if_any, object_fits}
 use Rattle.model.specs.Externs.{Extern, Object}
-use Rattle.model.specs.Fixup.{int_of, global_func, global_var, sized, named_param, named_params, placed, entry_at, fix_func, fix_func_by, fix_var, fix_entry, fix_entries, fix_section, fix_found, fixed_tables, fixed_for, fix_refusal_for, fix_refusal, fixed}
-use Rattle.model.specs.Kinds.{kind_number, is_func, is_var, is_func_proto, is_data_sec}
+use Rattle.model.specs.Fixup.{int_of, named_param, named_params, entry_at, fix_func, fix_var, fix_entry, fix_entries, fix_section, fixed_tables, fixed_for, fix_refusal_for, fix_refusal, fixed}
+use Rattle.model.specs.Kinds.{kind_number, is_func, is_var, is_data_sec}
 use Rattle.model.specs.Lists.{In}
 use Rattle.model.specs.Names.{name_at}
 use Rattle.model.specs.Runs.{granted}
 use Rattle.model.specs.Runs.Step.{fixup}
 use Rattle.model.specs.Spans.{part, end_of, Outside}
 use Rattle.model.specs.StepLaws.{NotOf, Leaves, param_at, FixupLeavesOtherRows}
-use Rattle.model.specs.Tables.{Tables, MAX_EXTERNS, parts_of, tables_fit}
+use Rattle.model.specs.Tables.{Tables, MAX_EXTERNS, tables_fit}
 use Rattle.model.specs.declared.btf.BtfType.{BtfType}
 use Rattle.model.specs.declared.btf.BtfParam.{BtfParam}
 use Rattle.model.specs.declared.btf.DataSecEntry.{DataSecEntry}
 use Rattle.model.specs.declared.refusal.Reason.{Reason}
-use Rattle.model.specs.declared.rows.Span.{Span}
 use Rattle.model.proofs.Lookups.{ok_same}
 use Rattle.model.proofs.Tested.{collected_test, collected_is_tested}
 use Rattle.model.proofs.Followed.{follow_in}
@@ -68,9 +67,6 @@ module _ {X : Type 0} (f : X → X) where
   abbrev pub mapped_part : ℕ → ℕ → List X → List X
   mapped_part s n xs = take s xs ++ (map f (take n (drop s xs)) ++ drop (s + n) xs)
 
-  pub part_length : (s n : ℕ) (xs : List X) → length (mapped_part s n xs) ≡ length xs
-  part_length s n xs = grind (arith, common_steps)
-
   -- what stands at a place is as before, or in the part and mapped
   abbrev AtPart : ℕ → ℕ → List X → List X → X → ℕ → Type 0
   AtPart s n xs ys d k = (get_or ys k d ≡ get_or xs k d) ⊎ ((s ≤ k) × (k < s + n) × (get_or ys k d ≡ f (get_or xs k d)))
@@ -90,9 +86,6 @@ module _ {X : Type 0} (f : X → X) where
       (⊎_elim (λ e. inl e) (λ r. let a = r.0 in let b = r.1 in inr (omega arith, omega arith, r.2)) (part_at s n xs d k))
 
 -- ---- one entry
-func_by : (P : Tables → Type 0) (p : Option ℕ) (at i id : ℕ) (t : Tables) → ((q : ℕ) → p ≡ Some q → P (fix_func q at i id t)) → (p ≡ None → P t) → P (fix_func_by p at i id t)
-func_by P p at i id t f n = search rules
-
 module _ (p : Option ℕ) (int at i : ℕ) (t : Tables) where
   abbrev pub id_at : ℕ
   id_at = (entry_at t.entries at).btf_type

@@ -1,6 +1,6 @@
 -- Spans that follow each other.
-use Rattle.std.proofs.Common.{rules, ◌≡◌, ℕ, ◌+◌, ◌≤◌, true, eqb, ◌↔◌, List, [], ◌∷◌, ◌++◌, sym, refl, ap, ◌∙◌, subst, inl, inr, arith}
-use Rattle.std.proofs.lemmas.Bool.{and_parts, and_from, leb-true, le-leb, eqb-true, eq-eqb}
+use Rattle.std.proofs.Common.{rules, ◌≡◌, ℕ, ◌+◌, ◌≤◌, true, eqb, ◌↔◌, List, [], ◌∷◌, ◌++◌, refl, ap, subst, inl, inr, arith}
+use Rattle.std.proofs.lemmas.Bool.{and_from, leb-true, le-leb, eq-eqb}
 use Rattle.model.specs.Lists.{In}
 use Rattle.model.specs.Spans.{end_of, follow}
 use Rattle.model.specs.TableLaws.{total, SpansFollow}

@@ -1,22 +1,20 @@
 -- What a granted call met.
-use Rattle.std.proofs.Common.{rules, ◌≡◌, ℕ, true, List, map, is_ok, Some, None, Ok, Err, Option, Result, refl, ap, ◌∙◌, ⊎_elim}
-use Rattle.std.specs.Option.{option_or}
+use Rattle.std.proofs.Common.{rules, ◌≡◌, ℕ, true, List, map, is_ok, Some, None, Ok, Err, Option, Result}
 use Rattle.std.specs.List.{list_any}
-use Rattle.std.proofs.lemmas.Bool.{cond-true, cond-false, cond_both, false≢true, cases_Bool, and_left}
+use Rattle.std.proofs.lemmas.Bool.{and_left}
 use Rattle.kallsyms.specs.Ends.{End}
 use Rattle.model.specs.Externs.{Extern}
 use Rattle.model.specs.Lines.{Line, said}
 use Rattle.model.specs.Lists.{In, first}
 use Rattle.model.specs.Relocate.{Taken, patched}
 use Rattle.model.specs.Resolve.{typed_refusal, wanted, line_refusal, end_refusal, missing_refusal, lines_refusal}
-use Rattle.model.specs.Runs.{State, Step, fits, reason, refusal, answered, call_of, granted}
+use Rattle.model.specs.Runs.{State, Step, fits, reason, answered, granted}
 use Rattle.model.specs.Runs.Step.{resolve}
 use Rattle.model.specs.Tables.{Symbols, Catalogue}
 use Rattle.model.specs.declared.refusal.Call.{Call}
 use Rattle.model.specs.declared.refusal.Reason.{Reason}
-use Rattle.model.specs.declared.refusal.Reason.TheVariants.{InvalidTable}
 use Rattle.model.specs.declared.rows.Slot.{Slot}
-use Rattle.model.proofs.Lookups.{or_else_parts, or_else_from, test_parts, when_parts, first_none, none_first, any_in}
+use Rattle.model.proofs.Lookups.{or_else_parts, or_else_from, test_parts, first_none, none_first, any_in}
 
 granted_none : (c : Call) (o : Option Reason) → is_ok (answered c o) ≡ true → o ≡ None
 granted_none c o e = search rules

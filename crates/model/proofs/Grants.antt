@@ -1,9 +1,8 @@
 -- When a resolution is granted.
-use Rattle.std.proofs.Common.{rules, ◌≡◌, ℕ, Bool, true, false, not, ◌&&◌, ◌||◌, eqb, ◌↔◌, List, map, is_some, Some, None, Option, sym, refl, ap, ◌∙◌, subst, inl, inr, ⊎_elim}
+use Rattle.std.proofs.Common.{rules, ◌≡◌, ℕ, Bool, true, false, ◌&&◌, ◌↔◌, List, map, is_some, Some, None, Option, sym, refl, ap, ◌∙◌, subst, inl, inr, ⊎_elim}
 use Rattle.std.specs.List.{list_any}
-use Rattle.std.proofs.lemmas.Bool.{cond-true, cond-false, cond_both, both_ways, false≢true, cases_Bool, eqb-true, eqb-false, eq-eqb, and_parts, and_from, or_left, or_right, or_cases, not-true}
+use Rattle.std.proofs.lemmas.Bool.{cond_both, both_ways, cases_Bool, eqb-true, and_parts, not-true}
 use Rattle.std.specs.Str.{bytes_eq}
-use Rattle.std.proofs.lemmas.Option.{none-some}
 use Rattle.std.proofs.lemmas.Slice.Eq.{bytes_eq-Decides}
 use Rattle.kallsyms.specs.Ends.{End, clean}
 use Rattle.model.specs.Externs.{Extern}
@@ -11,11 +10,10 @@ use Rattle.model.specs.Laws.{TypedCondition, Wanted, FindsRow, LinesAnswer, Line
 use Rattle.model.specs.Lines.{Line, said, first_address}
 use Rattle.model.specs.Lines.Line.{line, short}
 use Rattle.model.specs.Lists.{In, lookup}
-use Rattle.model.specs.Resolve.{candidate, missing_row, unfit_row, row_refusal, catalogue_refusal, strong_typed, typed_refusal, wanted, address_refusal, wanted_refusal, line_refusal, end_refusal, missing_refusal, lines_refusal}
+use Rattle.model.specs.Resolve.{catalogue_refusal, strong_typed, typed_refusal, wanted, address_refusal, wanted_refusal, line_refusal, end_refusal, missing_refusal, lines_refusal}
 use Rattle.model.specs.Runs.{State, Step, fits, granted, runs}
 use Rattle.model.specs.Runs.Step.{resolve}
 use Rattle.model.specs.Tables.{Catalogue}
-use Rattle.model.specs.declared.rows.CatalogueRow.{CatalogueRow}
 use Rattle.model.proofs.Granted.{Clear, clear, clear_granted, lines_parts, lines_from, none_missing}
 use Rattle.model.proofs.History.{marked, Kept, kept_name, kept_weak, after, runs_after, after_kept, wanted-Wanted, Wanted-wanted}
 use Rattle.model.proofs.Listed.{found_in, in_found}
@@ -113,16 +111,6 @@ typed_marked c b i a r = search rules
 
 typed_kept : (c : Option Catalogue) {r q : Extern} → Kept r q → typed_refusal c q ≡ typed_refusal c r
 typed_kept c {r} {q} k = search (rules, typed_marked)
-
-unfit_not : (x : Extern) → unfit_row x ≡ None → ⊥
-unfit_not x = search rules
-
-missing_not : (x : Extern) → missing_row x ≡ None → ⊥
-missing_not x = search rules
-
--- an extern that is not refused finds a row that fits
-pub row_fits : (x : Extern) (o : Option (ℕ × CatalogueRow)) → row_refusal x o ≡ None → (k : ℕ × CatalogueRow) × (o ≡ Some k) × (k.1.fits ≡ true)
-row_fits x o h = search rules
 
 refusal_finds : (c : Option Catalogue) (x : Extern) → catalogue_refusal c x ≡ None → FindsRow c x
 refusal_finds c x h = search rules

@@ -1,24 +1,23 @@
 -- Tables that grow, or whose rows are rewritten and keep their shape, stay well-formed.
 use Rattle.std.proofs.lemmas.Grind.{common_steps}
-use Rattle.std.proofs.Common.{rules, ◌≡◌, ℕ, zero, suc, ◌+◌, ◌<◌, ◌≤◌, Bool, true, false, cond, ◌&&◌, ◌||◌, eqb, ltb, leb, ◌⊎◌, List, [], ◌∷◌, ◌++◌, length, drop, set, is_some, Some, None, Ok, codes, Option, Result, sym, refl, ap, ◌∙◌, subst, inl, inr, ⊎_elim, arith}
+use Rattle.std.proofs.Common.{rules, ◌≡◌, ℕ, zero, suc, ◌+◌, ◌<◌, ◌≤◌, Bool, true, false, cond, ◌&&◌, ◌||◌, eqb, ◌⊎◌, List, [], ◌∷◌, ◌++◌, length, set, is_some, Some, None, Ok, Option, Result, sym, refl, ap, ◌∙◌, subst, inl, inr, ⊎_elim, arith}
 use Rattle.std.specs.List.{list_all}
 use Rattle.std.specs.Option.{option_map}
-use Rattle.std.specs.Str.{bytes_eq}
-use Rattle.std.proofs.lemmas.List.{append-nil, append_assoc, length-append, length_push, get_or_append_left, drop-append-le, at_drop_all}
-use Rattle.std.proofs.lemmas.Bool.{false≢true, cases_Bool, cases_lt, cond-true, cond-false, cond_both, and_parts, and_from, ltb-true, lt-ltb, leb-true, le-leb}
+use Rattle.std.proofs.lemmas.List.{append-nil, length-append, length_push, drop-append-le, at_drop_all}
+use Rattle.std.proofs.lemmas.Bool.{false≢true, cases_Bool, cond-true, cond-false, cond_both}
 use Rattle.std.proofs.lemmas.Option.{none-some, same_Some}
 use Rattle.model.specs.Chain.{no_row, type_at}
-use Rattle.model.specs.Added.{added, int_row, placeholder_row, int_name, placeholder_name, is_int_of_four, first_int, with_int, with_placeholder, room_for, room_for_int, room_for_placeholder}
+use Rattle.model.specs.Added.{added, int_row, placeholder_row, int_name, placeholder_name, first_int, with_int, with_placeholder, room_for, room_for_int, room_for_placeholder}
 use Rattle.model.specs.Collect.{section_here, section_from, section_of, entries_of}
 use Rattle.model.specs.Collected.{declares}
-use Rattle.model.specs.Kinds.{kind_number, of_kind, is_func, is_var, is_data_sec}
+use Rattle.model.specs.Kinds.{of_kind, is_func, is_var, is_data_sec}
 use Rattle.model.specs.Lists.{In, lookup, number_of}
 use Rattle.model.specs.Names.{to_zero, name_at}
-use Rattle.model.specs.Spans.{part, follow}
-use Rattle.model.specs.Tables.{Tables, MAX_ROWS, MAX_NAMES, void_first, parts_of, parts_fit, few, tables_fit}
+use Rattle.model.specs.Spans.{follow}
+use Rattle.model.specs.Tables.{Tables, MAX_ROWS, MAX_NAMES, void_first, parts_of, parts_fit, tables_fit}
 use Rattle.model.specs.declared.btf.BtfType.{BtfType}
 use Rattle.model.specs.declared.refusal.Reason.{Reason}
-use Rattle.model.proofs.Lookups.{ok_same, err_not}
+use Rattle.model.proofs.Lookups.{ok_same}
 
 -- ---- rows of one shape
 pub record Shape (t u : BtfType) : Type 0 where
@@ -126,10 +125,7 @@ zero_stays (x ∷ xs) more h =
     (cases_Bool (eqb x 0))
 
 pub name_stays : (strings more : List ℕ) (o : ℕ) → is_some (name_at strings o) ≡ true → name_at (strings ++ more) o ≡ name_at strings o
-name_stays strings more o h =
-    ⊎_elim
-    (λ (l : length strings < o). let n : name_at strings o ≡ None = at_drop_all to_zero strings o (omega arith) in absurd (false≢true (sym (ap is_some n) ∙ h)))
-    (λ (l : o ≤ length strings). ap to_zero (drop-append-le o strings more l) ∙ zero_stays (drop o strings) more h) (cases_lt (length strings) o)
+name_stays strings more o h = grind (arith, common_steps, at_drop_all, false≢true, drop-append-le, zero_stays)
 
 pub name_grows : (strings more : List ℕ) (o : ℕ) (n : List ℕ) → name_at strings o ≡ Some n → name_at (strings ++ more) o ≡ Some n
 name_grows strings more o n e = name_stays strings more o (ap is_some e) ∙ e

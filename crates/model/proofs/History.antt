@@ -1,13 +1,13 @@
 -- What a list of calls makes of one extern.
 use Rattle.std.proofs.lemmas.Grind.{common_steps}
-use Rattle.std.proofs.Common.{arith, rules, ◌≡◌, ℕ, Bool, true, false, cond, not, ◌||◌, eqb, List, [], ◌∷◌, map, is_some, Some, None, Option, sym, refl, ap, ◌∙◌, subst, inl, inr, ⊎_elim}
+use Rattle.std.proofs.Common.{arith, rules, ◌≡◌, ℕ, Bool, true, false, cond, ◌||◌, eqb, List, [], ◌∷◌, map, Some, None, Option, sym, refl, ap, ◌∙◌, subst, inl, inr, ⊎_elim}
 use Rattle.std.proofs.lemmas.List.{map-id}
-use Rattle.std.proofs.lemmas.Bool.{cond-true, cond-false, cond_both, both_ways, true≢false, cases_Bool, eqb-true, eqb-false, and_parts, and_from, or_parts, or_left, or_cases, not-true}
+use Rattle.std.proofs.lemmas.Bool.{cond-true, cond-false, cond_both, both_ways, cases_Bool, eqb-true, eqb-false, or_parts, not-true}
 use Rattle.std.proofs.lemmas.Simd.{map-map}
 use Rattle.model.specs.Laws.{ListedBy, FoundBy, Wanted}
-use Rattle.model.specs.Externs.{Extern, Object, resolved_to, addressed}
+use Rattle.model.specs.Externs.{Extern, Object, resolved_to}
 use Rattle.model.specs.Lines.{Line, said, first_address}
-use Rattle.model.specs.Resolve.{fitting_id, wanted, given_id, given_address, settled, zeroed, given}
+use Rattle.model.specs.Resolve.{wanted, given_address, given}
 use Rattle.model.specs.Runs.{State, Step, granted, made, next, runs}
 use Rattle.model.specs.Runs.Step.{resolve, fixup, relocate}
 use Rattle.model.specs.Tables.{Catalogue}
@@ -70,18 +70,6 @@ kept_same r = search rules
 pub kept_both : (r q s : Extern) → Kept r q → Kept q s → Kept r s
 kept_both r q s k l = search rules
 
-typed_not : {X : Type 0} (o : Option X) → is_some o ≡ true → o ≡ None → ⊥
-typed_not o t e = search rules
-
-id_kept : (o : Option ℕ) (r : Extern) → is_some r.typed ≡ true → Kept r (given_id o r)
-id_kept o r t = search rules
-
-settled_kept : (c : Option Catalogue) (ls : List Line) (r : Extern) → Kept r (settled c ls r)
-settled_kept c ls r = search rules
-
-zeroed_kept : (r : Extern) → Kept r (zeroed r)
-zeroed_kept r = search rules
-
 pub given_kept : (c : Option Catalogue) (ls : List Line) (r : Extern) → Kept r (given c ls r)
 given_kept c ls r = search rules
 
@@ -109,12 +97,6 @@ after_kept (s ∷ ss) st r = kept_both _ _ _ (change_kept s st r) (after_kept ss
 
 -- ---- a typeless row is resolved by the addresses among the lines of granted resolutions
 module _ (c : Option Catalogue) (ls : List Line) (r : Extern) (typeless : r.typed ≡ None) where
-  settled_is : settled c ls r ≡ given_address (first_address r.name ls) r
-  settled_is = search rules
-
-  zeroed_mark : (q : Extern) → (zeroed q).resolved ≡ q.resolved
-  zeroed_mark q = search rules
-
   given_mark : (given c ls r).resolved ≡ (given_address (first_address r.name ls) r).resolved
   given_mark = search rules
 

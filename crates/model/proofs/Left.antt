@@ -1,12 +1,12 @@
 -- What a refused call leaves, and what relocation leaves.
-use Rattle.std.proofs.Common.{rules, ◌≡◌, ℕ, Bool, true, false, cond, List, refl, ap, ◌∙◌, ⊎_elim}
+use Rattle.std.proofs.Common.{rules, ◌≡◌, ℕ, Bool, cond, List, refl, ap, ◌∙◌, ⊎_elim}
 use Rattle.std.proofs.lemmas.Bool.{cond-false, cases_Bool}
 use Rattle.model.specs.Externs.{Object}
 use Rattle.model.specs.Relocate.{taken, slot_at}
-use Rattle.model.specs.Runs.{State, fits, granted, patched_code}
-use Rattle.model.specs.Runs.Step.{resolve, fixup, relocate}
+use Rattle.model.specs.Runs.{State, fits, patched_code}
+use Rattle.model.specs.Runs.Step.{relocate}
 use Rattle.model.specs.Slots.{slots}
-use Rattle.model.specs.StepLaws.{left_by, RefusedChangesNothing, RelocationLeavesOtherSlots}
+use Rattle.model.specs.StepLaws.{RefusedChangesNothing, RelocationLeavesOtherSlots}
 use Rattle.model.proofs.Coded.{next_length, relocated_slots}
 use Rattle.model.proofs.Loads.{leaves}
 

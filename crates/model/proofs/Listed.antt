@@ -1,5 +1,5 @@
 -- The first nonzero address of a name among lines.
-use Rattle.std.proofs.Common.{rules, ◌≡◌, ℕ, not, ◌&&◌, eqb, List, [], ◌∷◌, Some, None, Option, unwrap_or, sym, refl, ap, ◌∙◌, inl, inr, ⊎_elim, arith}
+use Rattle.std.proofs.Common.{rules, ◌≡◌, ℕ, not, ◌&&◌, eqb, List, [], ◌∷◌, Some, Option, unwrap_or, sym, refl, ap, ◌∙◌, inl, inr, ⊎_elim}
 use Rattle.std.proofs.lemmas.Bool.{cond-true, cond-false, cond_both, both_ways, cases_Bool, eqb-false, ne_eqb, and_parts, and_from, not-true}
 use Rattle.std.specs.Str.{bytes_eq}
 use Rattle.std.proofs.lemmas.Slice.Eq.{bytes_eq-Decides}

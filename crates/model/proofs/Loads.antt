@@ -1,14 +1,11 @@
 -- What relocation makes of the slots, and of a load's two slots.
 use Rattle.std.proofs.lemmas.Grind.{common_steps}
-use Rattle.std.proofs.Common.{rules, ◌≡◌, ℕ, suc, ◌+◌, ◌<◌, Bool, true, false, cond, eqb, ◌⊎◌, List, [], ◌∷◌, ◌++◌, length, set, ℤ, pos, is_some, Some, None, Ok, Err, Option, Result, sym, refl, ap, ◌∙◌, subst, inl, inr, ⊎_elim, arith, w16, w32, SFits}
-use borrow.Author.Gap.{read_sfits}
-use Rattle.std.proofs.lemmas.List.{length-set, get_or-set_same, get_or-set_other, set_past}
-use Rattle.std.proofs.lemmas.Bool.{cond-true, cond-false, cond_both, cases_Bool, cases_eq, cases_lt, eqb-true, ltb-true}
-use Rattle.std.proofs.lemmas.Option.{none-some}
+use Rattle.std.proofs.Common.{rules, ◌≡◌, ℕ, suc, ◌+◌, ◌<◌, Bool, true, eqb, ◌⊎◌, List, [], ◌∷◌, ◌++◌, length, set, ℤ, is_some, Some, None, Ok, Err, Option, Result, sym, refl, ap, ◌∙◌, subst, inl, inr, ⊎_elim, arith, w32, SFits}
+use Rattle.std.proofs.lemmas.Bool.{cond_both, eqb-true, ltb-true}
 use Rattle.model.specs.Externs.{Extern, extern_named}
 use Rattle.model.specs.Laws.{name_in, name_of, Touches, LoadAlone}
 use Rattle.model.specs.Lists.{In}
-use Rattle.model.specs.Relocate.{Program, slots_of, Taken, taken, taken_in, points_into, on_slot, slot_index, has_next, symbol_of, slot_at, is_call, is_load, call_slot, load_value, with_call, with_pair, with_load, patch_extern, patch_found, patch_name, patch_symbol, patch, patched, relocated, extern_name}
+use Rattle.model.specs.Relocate.{Program, slots_of, Taken, taken, taken_in, points_into, slot_index, has_next, slot_at, is_call, is_load, call_slot, load_value, with_call, with_pair, with_load, patch_extern, patch_found, patch_name, patch_symbol, patch, patched, relocated}
 use Rattle.model.specs.SlotLaws.{FitsSlot}
 use Rattle.model.specs.Slots.{LOAD, CALL, low, high, with_imm, with_src}
 use Rattle.model.specs.Spans.{part, follow}
@@ -59,13 +56,6 @@ record Changed (T : ℕ → Type 0) (old new : List Slot) : Type 0 where
 changed_none : (T : ℕ → Type 0) (code : List Slot) → Changed T code code
 changed_none T code = search rules
 
-changed_both : (T : ℕ → Type 0) (a b c : List Slot) → Changed T a b → Changed T b c → Changed T a c
-changed_both T a b c p q = search rules
-
--- a property of every slot, after one is set
-set_each : (P : Slot → Type 0) (code : List Slot) (i : ℕ) (s : Slot) (j : ℕ) → (j ≡ i → P s) → P (slot_at code j) → P (slot_at (set code i s) j)
-set_each P code i s j h k = grind (arith, common_steps)
-
 changed_set : (T : ℕ → Type 0) (code : List Slot) (i : ℕ) (s : Slot) → T i → s.code ≡ (slot_at code i).code → (EachFits code → FitsSlot s) → Changed T code (set code i s)
 changed_set T code i s t e f = grind (arith, common_steps)
 
@@ -73,15 +63,6 @@ changed_set T code i s t e f = grind (arith, common_steps)
 record Kin (s new : Slot) : Type 0 where
   code : new.code ≡ s.code
   fit : FitsSlot s → FitsSlot new
-
-zero_fits_16 : SFits w16 (pos 0)
-zero_fits_16 = read_sfits w16 0
-
-zero_fits_32 : SFits w32 (pos 0)
-zero_fits_32 = read_sfits w32 0
-
-src_fits : (r : ℕ) (s : Slot) → r < 16 → (with_src r s).regs < 256
-src_fits r s h = omega arith
 
 module _ (name : Span) (t : Taken) (s new : Slot) (h : s.code ≡ CALL) where
   call_kin : (id : Option ℕ) (resolved weak : Bool) → call_slot id resolved weak name t s ≡ Ok new → Kin s new
@@ -140,9 +121,7 @@ pub record Codes (old new : List Slot) : Type 0 where
 
 module _ (xs : List Extern) (ss : Symbols) where
   codes_more : (old code new : List Slot) (t : Taken) → Codes old code → patch xs ss t code ≡ Ok new → Codes old new
-  codes_more old code new t k e =
-      let c = patch_changed xs code new t ss e in
-      record { size = c.len ∙ k.size; same = λ i. c.codes i ∙ k.same i }
+  codes_more old code new t k e = grind (arith, common_steps, patch_changed)
 
   touches_old : (old code : List Slot) (t : Taken) (i : ℕ) → Codes old code → Touches ss code t i → Touches ss old t i
   touches_old old code t i k h = search rules

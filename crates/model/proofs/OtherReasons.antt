@@ -1,27 +1,20 @@
 -- On well-formed tables no call is refused for its tables.
-use Rattle.std.proofs.Common.{rules, ◌≡◌, ℕ, suc, Bool, true, false, cond, eqb, List, [], ◌∷◌, map, ℤ, is_some, Some, None, Ok, Err, Option, Result, sym, refl, ap, ◌∙◌}
+use Rattle.std.proofs.Common.{rules, ◌≡◌, ℕ, suc, false, eqb, List, [], ◌∷◌, Some, None, Ok, Err, Option, Result}
 use Rattle.std.specs.Option.{option_or}
-use Rattle.std.proofs.lemmas.Bool.{cond_both, eq-eqb, true≢false}
-use Rattle.std.proofs.lemmas.Option.{same_Some}
 use Rattle.kallsyms.specs.Ends.{End}
 use Rattle.model.specs.Externs.{Extern}
 use Rattle.model.specs.Fixup.{fix_refusal_for}
-use Rattle.model.specs.Lines.{Line, said}
-use Rattle.model.specs.Lines.Line.{line, short}
+use Rattle.model.specs.Lines.{Line}
 use Rattle.model.specs.Lists.{first, numbered}
 use Rattle.model.specs.Refusals.{told}
-use Rattle.model.specs.Relocate.{Taken, taken, call_slot, with_call, load_value, with_load, patch_extern, patch_found, patch_name, patch_symbol, patch, patched, extern_name, symbol_of, slot_at, slot_index, is_call, is_load}
-use Rattle.model.specs.Resolve.{candidate, row_refusal, missing_row, unfit_row, catalogue_refusal, typed_refusal, address_refusal, wanted_refusal, line_refusal, end_refusal, missing_refusal, lines_refusal}
+use Rattle.model.specs.Relocate.{Taken, patch, patched}
+use Rattle.model.specs.Resolve.{row_refusal, catalogue_refusal, line_refusal, end_refusal, lines_refusal}
 use Rattle.model.specs.Runs.{State, Step, reason}
-use Rattle.model.specs.Runs.Step.{resolve, fixup, relocate}
-use Rattle.model.specs.Slots.{slots}
 use Rattle.model.specs.Tables.{Tables, Symbols, Catalogue}
 use Rattle.model.specs.declared.refusal.Reason.{Reason}
-use Rattle.model.specs.declared.refusal.Reason.TheVariants.{InvalidTable, InvalidRelocationOffset}
+use Rattle.model.specs.declared.refusal.Reason.TheVariants.{InvalidTable}
 use Rattle.model.specs.declared.rows.CatalogueRow.{CatalogueRow}
 use Rattle.model.specs.declared.rows.Slot.{Slot}
-use Rattle.model.specs.declared.rows.Span.{Span}
-use Rattle.model.specs.declared.rows.Symbol.{Symbol}
 use Rattle.model.proofs.Granted.{go_on}
 
 -- ---- a reason of another number than 1
@@ -54,23 +47,11 @@ first_others why h n [] = tt
 first_others why h n (x ∷ xs) = else_others (numbered n (why x)) (first why (suc n) xs) (numbered_others n (why x) (h x)) (first_others why h (suc n) xs)
 
 -- ---- resolution
-missing_other : (x : Extern) → OtherBy (missing_row x)
-missing_other x = search rules
-
-unfit_other : (x : Extern) → OtherBy (unfit_row x)
-unfit_other x = search rules
-
 row_other : (x : Extern) (o : Option (ℕ × CatalogueRow)) → OtherBy (row_refusal x o)
 row_other x o = search rules
 
 catalogue_other : (c : Option Catalogue) (x : Extern) → OtherBy (catalogue_refusal c x)
 catalogue_other c x = search rules
-
-address_other : (x : Extern) (i a : ℕ) (o : Option ℕ) → OtherBy (address_refusal x i a o)
-address_other x i a o = search rules
-
-wanted_other : (o : Option (ℕ × Extern)) (a : ℕ) (b : Option ℕ) → OtherBy (wanted_refusal o a b)
-wanted_other o a b = search rules
 
 line_other : (xs : List Extern) (ls : List Line) (l : Line) → OtherBy (line_refusal xs ls l)
 line_other xs ls l = search rules
@@ -86,27 +67,6 @@ fix_other : (xs : List Extern) (p : Option ℕ) (t : Tables) → Others (fix_ref
 fix_other xs p t = search rules
 
 -- ---- relocation
-call_other : (id : Option ℕ) (resolved weak : Bool) (name : Span) (t : Taken) (s : Slot) → OtherErr (call_slot id resolved weak name t s)
-call_other id resolved weak name t s = search rules
-
-with_call_other : (code : List Slot) (t : Taken) (p : Result Slot Reason) → OtherErr p → OtherErr (with_call code t p)
-with_call_other code t p h = search rules
-
-load_other : (code : List Slot) (name : Span) (t : Taken) (o : Option (ℕ × ℤ × ℤ)) → OtherErr (with_load code name t o)
-load_other code name t o = search rules
-
-extern_other : (x : Extern) (name : Span) (t : Taken) (code : List Slot) → OtherErr (patch_extern x name t code)
-extern_other x name t code = search rules
-
-found_other : (o : Option (ℕ × Extern)) (name : Span) (t : Taken) (code : List Slot) → OtherErr (patch_found o name t code)
-found_other o name t code = search rules
-
-name_other : (xs : List Extern) (names : List ℕ) (o : Option Span) (t : Taken) (code : List Slot) → OtherErr (patch_name xs names o t code)
-name_other xs names o t code = search rules
-
-symbol_other : (xs : List Extern) (names : List ℕ) (o : Option (ℕ × Symbol)) (t : Taken) (code : List Slot) → OtherErr (patch_symbol xs names o t code)
-symbol_other xs names o t code = search rules
-
 patch_other : (xs : List Extern) (ss : Symbols) (t : Taken) (code : List Slot) → OtherErr (patch xs ss t code)
 patch_other xs ss t code = search rules
 

@@ -1,14 +1,14 @@
 -- Which lines a resolution reads, and which line it is refused for.
-use Rattle.std.proofs.Common.{rules, ◌≡◌, ℕ, suc, ◌+◌, Bool, true, false, cond, not, ◌||◌, List, [], ◌∷◌, ◌++◌, map, length, is_some, Some, None, Option, sym, refl, ap, ◌∙◌, inl, inr, ⊎_elim, arith}
+use Rattle.std.proofs.Common.{rules, ◌≡◌, ℕ, suc, ◌+◌, Bool, true, false, not, ◌||◌, List, [], ◌∷◌, ◌++◌, map, length, is_some, Some, None, Option, sym, refl, ap, ◌∙◌, inl, inr, arith}
 use Rattle.std.specs.Option.{option_or}
 use Rattle.std.specs.List.{list_any}
-use Rattle.std.proofs.lemmas.Bool.{cond-true, cond-false, or_left, or_right, or_from, true≢false, false_from_ne_true}
+use Rattle.std.proofs.lemmas.Bool.{cond-true, cond-false, or_left, or_right, true≢false, false_from_ne_true}
 use Rattle.std.proofs.Math.Nat.{zero-add}
 use Rattle.model.specs.Externs.{Extern}
 use Rattle.model.specs.Lines.{Line, said}
 use Rattle.model.specs.Lists.{In, first, numbered}
 use Rattle.model.specs.ReadLaws.{Reads, LinesAreRead}
-use Rattle.model.specs.Resolve.{typed_refusal, wanted, line_refusal, end_refusal, missing_refusal, after_first}
+use Rattle.model.specs.Resolve.{typed_refusal, wanted, after_first}
 use Rattle.model.specs.Tables.{Catalogue}
 use Rattle.model.specs.declared.refusal.Reason.{Reason}
 use Rattle.model.proofs.Lookups.{none_is}

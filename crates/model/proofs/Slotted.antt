@@ -1,16 +1,14 @@
 -- The laws of slots.
 use Rattle.std.proofs.lemmas.Grind.{common_steps}
-use Rattle.std.proofs.Common.{rules, ◌≡◌, ℕ, zero, suc, ◌+◌, ◌*◌, ◌/◌, ◌%◌, ◌^◌, ◌<◌, List, [], ◌∷◌, ◌++◌, length, get_or, take, drop, sym, refl, ap, ◌∙◌, append-nil, arith, length-drop, take-append-drop, length-take, w16, w32, to_z, of_z}
-use mir.Facts.{Fits-of_z, sfits_to_z}
+use Rattle.std.proofs.Common.{rules, ◌≡◌, ℕ, zero, suc, ◌+◌, ◌*◌, ◌/◌, ◌%◌, ◌^◌, ◌<◌, List, [], ◌∷◌, ◌++◌, length, get_or, take, drop, sym, refl, ap, ◌∙◌, append-nil, arith, length-drop, take-append-drop, length-take, w16, w32, of_z}
+use mir.Facts.{Fits-of_z}
 use Rattle.std.specs.List.{AllByRecursion}
-use Rattle.std.proofs.lemmas.Nat.{mod_below, shr-shr}
 use Rattle.std.proofs.ByRecursion.{All-take, All-drop}
-use Rattle.std.proofs.lemmas.List.{drop_all, drop_more}
-use Rattle.std.proofs.lemmas.Int.{wrapping_add-bits, to_z-of_z, of_z-to_z}
-use Rattle.std.proofs.lemmas.Bool.{cond-true, cond-false, eq-eqb, ne_eqb, eqb-true}
+use Rattle.std.proofs.lemmas.List.{drop_all}
+use Rattle.std.proofs.lemmas.Int.{wrapping_add-bits}
+use Rattle.std.proofs.lemmas.Bool.{eqb-true}
 use Rattle.model.specs.SlotLaws.{FitsSlot, SlotsAreBytes, PoisonWraps}
-use Rattle.model.specs.Slots.{slot_of, slot_bytes, first_slots, slots, slots_bytes, with_imm, with_src, low, high, loads}
-use Rattle.model.specs.Slots.Loaded.{immediate}
+use Rattle.model.specs.Slots.{slot_of, slot_bytes, first_slots, slots, slots_bytes}
 use Rattle.model.specs.declared.rows.Slot.{Slot}
 
 -- ---- how many
@@ -26,12 +24,6 @@ slots_bytes_length [] = refl
 slots_bytes_length (s ∷ ss) = let long = slots_bytes_length ss in omega arith
 
 -- ---- a slot is written and read back
-halves : (n : ℕ) → n < 2 ^ 16 → n % 256 + n / 256 * 256 ≡ n
-halves n h = omega arith
-
-quarters : (n : ℕ) → n < 2 ^ 32 → n % 256 + n / 256 % 256 * 256 + n / 65536 % 256 * 65536 + n / 16777216 * 16777216 ≡ n
-quarters n h = search rules
-
 slot_read : (s : Slot) → FitsSlot s → slot_of (slot_bytes s) ≡ s
 slot_read s f = search rules
 
@@ -47,24 +39,10 @@ pub slots_read_back : (ss : List Slot) → AllByRecursion FitsSlot ss → slots 
 slots_read_back ss h = ap slots (sym (append-nil (slots_bytes ss))) ∙ slots_after ss [] h ∙ append-nil ss
 
 -- ---- eight bytes are read and written back
-small : (xs : List ℕ) (k : ℕ) → AllByRecursion (λ b. b < 256) xs → get_or xs k 0 < 256
-small xs k h = grind (arith, common_steps)
-
 -- n elements from k on
 abbrev reads : ℕ → ℕ → List ℕ → List ℕ
 reads k zero xs = []
 reads k (suc n) xs = get_or xs k 0 ∷ reads (k + 1) n xs
-
-reads_all : (n k : ℕ) (xs : List ℕ) → k + n ≡ length xs → drop k xs ≡ reads k n xs
-reads_all zero k xs e = drop_all k xs (omega arith)
-reads_all (suc n) k xs e = drop_more xs k 0 (omega arith) ∙ ap (λ l. get_or xs k 0 ∷ l) (reads_all n (k + 1) xs (omega arith))
-
-halved : (a b : ℕ) → a < 256 → b < 256 → let n = of_z w16 (to_z w16 (a + b * 256)) in (n % 256 ≡ a) × (n / 256 ≡ b)
-halved a b p q = search rules
-
-quartered : (a b c d : ℕ) → a < 256 → b < 256 → c < 256 → d < 256
-    → let n = of_z w32 (to_z w32 (a + b * 256 + c * 65536 + d * 16777216)) in (n % 256 ≡ a) × (n / 256 % 256 ≡ b) × (n / 65536 % 256 ≡ c) × (n / 16777216 ≡ d)
-quartered a b c d p q r s = search rules
 
 slot_written : (xs : List ℕ) → length xs ≡ 8 → AllByRecursion (λ b. b < 256) xs → slot_bytes (slot_of xs) ≡ xs
 slot_written xs e h = grind (arith, common_steps)
@@ -100,8 +78,5 @@ slots_are_bytes =
     }
 
 -- ---- what slots mean
-pub loads_address : (a : ℕ) (s next : Slot) → a < 2 ^ 64 → loads (with_imm (low a) (with_src 0 s)) (with_imm (high a) next) ≡ immediate a
-loads_address a s next h = search rules
-
 pub poison_wraps : PoisonWraps
 poison_wraps symbol h = wrapping_add-bits w32 2002000000 symbol (omega arith) h

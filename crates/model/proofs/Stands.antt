@@ -1,42 +1,35 @@
 -- An address that a resolution gave stands, also in the slots that load it.
 use Rattle.std.proofs.lemmas.Grind.{common_steps}
-use Rattle.std.proofs.Common.{arith, rules, ◌≡◌, ℕ, suc, ◌+◌, ◌/◌, ◌^◌, ◌<◌, true, false, not, ◌||◌, eqb, ltb, leb, List, [], ◌∷◌, map, length, is_some, Some, None, Option, sym, refl, ap, ◌∙◌, subst, inl, inr, ⊎_elim}
-use Rattle.std.specs.List.{list_all}
+use Rattle.std.proofs.Common.{arith, rules, ◌≡◌, ℕ, suc, ◌/◌, ◌^◌, ◌<◌, true, false, List, [], ◌∷◌, map, length, Some, None, Option, sym, refl, ap, ◌∙◌, subst, inl, inr, ⊎_elim}
 use Rattle.std.specs.Str.{bytes_eq}
-use Rattle.std.proofs.lemmas.Bool.{cond-true, cond-false, cond_both, cases_Bool, and_parts, and_from, or_parts, ltb-true}
-use Rattle.std.proofs.lemmas.Option.{none-some, same_Some}
+use Rattle.std.proofs.lemmas.Bool.{cond-true, cond-false, cond_both, cases_Bool, and_parts}
+use Rattle.std.proofs.lemmas.Option.{none-some}
 use Rattle.std.proofs.lemmas.Slice.Eq.{bytes_eq-Decides}
-use Rattle.kallsyms.specs.Address.{address, number, unsigned, limited}
-use Rattle.kallsyms.specs.Fields.{fields, field}
 use Rattle.kallsyms.specs.Ends.{End}
 use Rattle.model.specs.Collected.{Distinct, object_fits}
-use Rattle.model.specs.Externs.{Extern, extern_named, resolved_to, addressed}
+use Rattle.model.specs.Externs.{Extern, extern_named}
 use Rattle.model.specs.Laws.{Lists, address_in, address_of, Holds, LoadsHold, Stands}
 use Rattle.model.specs.Lines.{Line, said, first_address}
-use Rattle.model.specs.Lines.Line.{line, short}
-use Rattle.model.specs.Lists.{In, ascends, lookup}
-use Rattle.model.specs.Relocate.{Program, slots_of, code_fits, relocations_fit, functions_fit, program_fits, slot_at, slot_index}
-use Rattle.model.specs.Resolve.{fitting_id, wanted, given_id, settled, given}
+use Rattle.model.specs.Lines.Line.{line}
+use Rattle.model.specs.Lists.{In, lookup}
+use Rattle.model.specs.Relocate.{Program, slots_of, program_fits, slot_index}
+use Rattle.model.specs.Resolve.{wanted, given}
 use Rattle.model.specs.Runs.{State, Step, granted, next, runs}
 use Rattle.model.specs.Runs.Step.{resolve, fixup, relocate}
-use Rattle.model.specs.Slots.{slots, loads, low, with_imm, with_src}
+use Rattle.model.specs.Slots.{slots}
 use Rattle.model.specs.Spans.{follow}
-use Rattle.model.specs.Tables.{Catalogue, MAX_FUNCTIONS, symbols_fit}
-use Rattle.model.specs.declared.rows.Function.{Function}
+use Rattle.model.specs.Tables.{Catalogue}
 use Rattle.model.specs.declared.rows.Slot.{Slot}
 use Rattle.model.proofs.Coded.{Bytes, relocated_slots, next_bytes, runs_bytes}
 use Rattle.model.proofs.Granted.{granted_parts, clear}
 use Rattle.model.proofs.Grants.{judged}
 use Rattle.model.proofs.History.{Kept, kept_name, kept_typed, change, next_change, change_kept, after, runs_after, after_kept}
-use Rattle.model.proofs.Listed.{line_address, short_not, found_in}
+use Rattle.model.proofs.Listed.{found_in}
 use Rattle.model.proofs.Loads.{Paired, loads_hold}
-use Rattle.model.proofs.Lookups.{some_is, none_is, mapped, lookup_in, lookup_map, in_map, map_in}
-use Rattle.model.proofs.Slotted.{loads_address, slots_length}
+use Rattle.model.proofs.Lookups.{some_is, mapped, lookup_in, lookup_map, in_map, map_in}
+use Rattle.model.proofs.Slotted.{slots_length}
 
 -- ---- an address that a line says is below 2 ^ 64
-limited_below : (o : Option ℕ) (a : ℕ) → limited o ≡ Some a → a < 2 ^ 64
-limited_below o a e = search rules
-
 said_below : (l n : List ℕ) (a : ℕ) → said l ≡ line n (Some a) → a < 2 ^ 64
 said_below l n a = search rules
 
@@ -51,12 +44,6 @@ module _ (c : Option Catalogue) (ls : List Line) (p : Extern) (a : ℕ) (nonzero
     pub wants : wanted p ≡ true
     pub is : first_address p.name ls ≡ a
     pub mark : x.resolved ≡ true
-
-  id_took : (o : Option ℕ) → (given_id o p).address ≡ Some a → Took (given_id o p)
-  id_took o e = search rules
-
-  found_took : (settled c ls p).address ≡ Some a → Took (settled c ls p)
-  found_took = search rules
 
   given_took : (given c ls p).address ≡ Some a → Took (given c ls p)
   given_took = search rules
@@ -83,9 +70,6 @@ named_next n s st = search (rules, next_change, named_map, change, change_kept)
 -- ---- a pair that holds an address loads it
 held : (new old : List Slot) (i a : ℕ) → a < 2 ^ 64 → Paired new old i a → Holds new i a
 held new old i a l p = search rules
-
-follow_from : (fs : List Function) (n : ℕ) → functions_fit fs n ≡ true → follow 0 (slots_of fs) n ≡ true
-follow_from fs n h = search rules
 
 program_follow : (p : Program) (bs : List ℕ) → program_fits p bs ≡ true → follow 0 (slots_of p.functions) (length bs / 8) ≡ true
 program_follow p bs h = grind (arith, common_steps)

@@ -1,18 +1,17 @@
 -- The tests of the tables say exactly that the tables are well-formed.
-use Rattle.std.proofs.Common.{rules, ◌≡◌, ℕ, ◌/◌, ◌%◌, ◌<◌, ◌≤◌, Bool, true, false, ◌&&◌, ◌||◌, eqb, ltb, leb, ◌⊎◌, ◌↔◌, List, [], ◌∷◌, ◌++◌, length, Some, None, Option, sym, refl, ap, ◌∙◌, subst, inl, inr, ⊎_elim, arith}
+use Rattle.std.proofs.Common.{rules, ◌≡◌, ℕ, ◌/◌, ◌%◌, ◌<◌, ◌≤◌, Bool, true, false, ◌&&◌, ltb, leb, ◌⊎◌, ◌↔◌, List, [], ◌∷◌, ◌++◌, length, Some, Option, refl, ap, subst, inl, inr, arith}
 use Rattle.std.specs.List.{list_all}
-use Rattle.std.proofs.lemmas.Bool.{false≢true, cases_Bool, and_parts, and_from, or_left, or_right, or_from, or_parts, or_cases, ltb-true, lt-ltb, leb-true, le-leb, eqb-true, eq-eqb}
-use Rattle.std.proofs.lemmas.Option.{none-some, same_Some}
+use Rattle.std.proofs.lemmas.Bool.{and_parts, and_from, ltb-true, lt-ltb, leb-true, le-leb, eqb-true, eq-eqb}
 use Rattle.model.specs.Chain.{type_at}
-use Rattle.model.specs.Collected.{Collected, collected_if_any, object_fits}
+use Rattle.model.specs.Collected.{Collected, object_fits}
 use Rattle.model.specs.Externs.{Extern, Object}
-use Rattle.model.specs.Kinds.{kind_number, of_kind, is_func_proto, is_data_sec}
+use Rattle.model.specs.Kinds.{kind_number, of_kind}
 use Rattle.model.specs.Lists.{ascends, earlier}
 use Rattle.model.specs.Relocate.{Program, slots_of, functions_fit, relocations_fit, code_fits, program_fits}
 use Rattle.model.specs.Slots.{whole_slots}
 use Rattle.model.specs.Spans.{inside, end_of, follow}
 use Rattle.model.specs.TableLaws.{SpansFollow, WellFormedTables, WellFormedObject, Before, WellFormedSymbols, WellFormedCatalogue, WellFormedProgram, TablesAreTested}
-use Rattle.model.specs.Tables.{Tables, Symbols, Catalogue, MAX_ROWS, MAX_FUNCTIONS, MAX_NAMES, MAX_SECTION_OFFSET, MAX_EXTERNS, void_first, parts_of, parts_fit, tables_fit, inside_if_any, symbols_fit, catalogue_fits}
+use Rattle.model.specs.Tables.{Tables, Symbols, Catalogue, MAX_ROWS, MAX_FUNCTIONS, MAX_NAMES, MAX_SECTION_OFFSET, void_first, parts_fit, inside_if_any, symbols_fit, catalogue_fits}
 use Rattle.model.specs.declared.btf.BtfType.{BtfType}
 use Rattle.model.specs.declared.rows.CatalogueRow.{CatalogueRow}
 use Rattle.model.specs.declared.rows.Function.{Function}

@@ -1,17 +1,17 @@
 -- The test of an object says that it is as collection leaves it.
-use Rattle.std.proofs.Common.{rules, ◌≡◌, ℕ, Bool, true, not, ◌&&◌, List, [], ◌∷◌, is_some, Some, None, Ok, Err, Option, Result, sym, refl, ap, ◌∙◌, ⊎_elim}
-use Rattle.std.specs.List.{list_any, list_all}
+use Rattle.std.proofs.Common.{rules, ◌≡◌, ℕ, true, not, List, [], ◌∷◌, is_some, Some, Option, Result, sym, refl, ◌∙◌}
+use Rattle.std.specs.List.{list_any}
 use Rattle.std.specs.Str.{bytes_eq}
-use Rattle.std.proofs.lemmas.Bool.{true≢false, false≢true, cases_Bool, and_parts, and_from, not-true, not_from_false}
+use Rattle.std.proofs.lemmas.Bool.{true≢false, false≢true, and_parts, and_from, not-true, not_from_false}
 use Rattle.std.proofs.lemmas.Option.{none-some, same_Some}
 use Rattle.std.proofs.lemmas.Slice.Eq.{bytes_eq-Decides}
 use Rattle.model.specs.Chain.{type_at}
-use Rattle.model.specs.Collect.{section_of, entries_of}
+use Rattle.model.specs.Collect.{section_of}
 use Rattle.model.specs.Collected.{declares, Distinct, Collected, distinct, placeholder_fits, found_fits, externs_fit, collected_if_any}
 use Rattle.model.specs.Externs.{Extern, Object}
 use Rattle.model.specs.Kinds.{is_func}
 use Rattle.model.specs.Lists.{In}
-use Rattle.model.specs.Names.{name_at, reads_as}
+use Rattle.model.specs.Names.{name_at}
 use Rattle.model.specs.StepLaws.{CollectedIsTested}
 use Rattle.model.specs.Tables.{Tables}
 use Rattle.model.specs.declared.btf.DataSecEntry.{DataSecEntry}
@@ -46,9 +46,6 @@ module _ (t : Tables) (es : List DataSecEntry) where
 
 -- ---- the externs
 module _ (t : Tables) where
-  abbrev extern_fits : Extern → Bool
-  extern_fits x = declares t x.entry && reads_as (name_at t.strings x.place) x.name
-
   pub externs_are : (xs : List Extern) → externs_fit t xs ≡ true
       → ((x : Extern) → In x xs → declares t x.entry ≡ true) × ((x : Extern) → In x xs → name_at t.strings x.place ≡ Some x.name) × Distinct xs
   externs_are xs h = search (rules, all_in, reads_is, distinct_is)

@@ -2,14 +2,14 @@
 use Rattle.std.proofs.lemmas.Grind.{common_steps}
 use Rattle.std.proofs.Common.{rules, ◌≡◌, ℕ, suc, ◌+◌, ◌*◌, ◌<◌, ◌≤◌, true, false, cond, ◌||◌, eqb, List, [], ◌∷◌, ◌++◌, length, set, is_some, Some, None, Option, sym, refl, ap, ◌∙◌, subst, ⊎_elim, arith}
 use Rattle.std.specs.List.{range_with_len}
-use Rattle.std.proofs.lemmas.List.{length-set, set-get_or, get_or-set_same, get_or-set_other}
-use Rattle.std.proofs.lemmas.Bool.{true≢false, cases_Bool, cases_eq, cond-true, cond-false, and_left, or_cases, eqb-true, ne_eqb}
-use Rattle.std.proofs.lemmas.Option.{none-some, same_Some}
-use Rattle.model.specs.Added.{int_row, is_int_of_four, first_int, with_int, room_for_int}
+use Rattle.std.proofs.lemmas.List.{set-get_or, get_or-set_same}
+use Rattle.std.proofs.lemmas.Bool.{true≢false, cases_Bool, cases_eq, cond-true, cond-false, and_left, or_cases}
+use Rattle.std.proofs.lemmas.Option.{none-some}
+use Rattle.model.specs.Added.{is_int_of_four, first_int, with_int, room_for_int}
 use Rattle.model.specs.Chain.{no_row, type_at}
 use Rattle.model.specs.Collected.{Collected, object_fits}
 use Rattle.model.specs.Externs.{Extern, Object}
-use Rattle.model.specs.Fixup.{int_of, global_func, global_var, sized, placed, entry_at, with_rows, fix_func_by, fix_var, fix_entry, fix_entries, fix_section, fix_found, fixed_tables, fixed_for, fix_refusal_for, fix_refusal, fixed}
+use Rattle.model.specs.Fixup.{int_of, global_func, global_var, sized, placed, entry_at, with_rows, fix_entry, fix_entries, fix_section, fixed_tables, fixed_for, fix_refusal_for, fix_refusal, fixed}
 use Rattle.model.specs.Kinds.{kind_number, is_int, is_func, is_var, is_data_sec}
 use Rattle.model.specs.Lists.{In, lookup, number_of}
 use Rattle.model.specs.Tables.{Tables}
@@ -208,10 +208,6 @@ first_with t o e = search (rules, first_push, number_none)
 -- ---- the whole
 abbrev pub GlobalVar : Option ℕ → Tables → Type 0
 GlobalVar p t = (q : ℕ) → p ≡ Some q → (is_var (type_at t.types q) ≡ true) × ((type_at t.types q).«data» ≡ 1)
-
--- the int row is the type of the placeholder
-int_is : (p : Option ℕ) (t : Tables) (q : ℕ) → p ≡ Some q → (type_at t.types q).size_or_type ≡ (with_int (int_of p t.types) t).0
-int_is p t q e = search rules
 
 int_again : (p : Option ℕ) (v : Tables) (int : ℕ) → ((q : ℕ) → p ≡ Some q → Good v.types int q) → (p ≡ None → first_int v.types ≡ Some int) → int_of p v.types ≡ Some int
 int_again p v int g f = search rules

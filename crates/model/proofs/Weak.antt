@@ -1,34 +1,30 @@
 -- Weak for strong: what is granted on an object is granted with some of its externs made weak, and ends alike.
-use Rattle.std.proofs.Common.{rules, ◌≡◌, ℕ, suc, ◌/◌, Bool, true, false, cond, not, ◌&&◌, ◌||◌, eqb, leb, List, [], ◌∷◌, map, length, is_some, is_ok, Some, None, Ok, Err, Option, Result, sym, refl, ap, ◌∙◌, subst, inl, inr, ⊎_elim}
+use Rattle.std.proofs.Common.{rules, ◌≡◌, ℕ, suc, Bool, true, false, cond, not, ◌&&◌, List, [], ◌∷◌, map, is_ok, Some, None, Ok, Err, Option, Result, sym, refl, ap, ◌∙◌, subst, inl, inr}
 use Rattle.std.specs.Str.{bytes_eq}
-use Rattle.std.proofs.lemmas.Bool.{cond-true, cond-false, cond_both, cases_Bool, and_from, and_left, and_right, or_left}
+use Rattle.std.proofs.lemmas.Bool.{cond-true}
 use Rattle.std.proofs.lemmas.Option.{none-some}
 use Rattle.kallsyms.specs.Ends.{End}
-use Rattle.model.specs.Collect.{collect, section_of}
-use Rattle.model.specs.Collected.{declares, distinct, found_fits, externs_fit, collected_if_any, object_fits}
-use Rattle.model.specs.Externs.{Extern, Object, resolved_to}
+use Rattle.model.specs.Collect.{collect}
+use Rattle.model.specs.Collected.{distinct, externs_fit, collected_if_any, object_fits}
+use Rattle.model.specs.Externs.{Extern, Object}
 use Rattle.model.specs.Fixup.{fixed_for, fix_refusal_for}
-use Rattle.model.specs.Laws.{AllGranted, SameButWeak, FollowsAlike, WeakForStrong, WeakerSteps, unmarked, weaker_symbol, weaker_symbols, weaker_step}
-use Rattle.model.specs.Lines.{Line, said, first_address}
-use Rattle.model.specs.Lines.Line.{line, short}
-use Rattle.model.specs.Lists.{In, lookup}
-use Rattle.model.specs.Names.{name_at, reads_as}
+use Rattle.model.specs.Laws.{AllGranted, SameButWeak, FollowsAlike, WeakForStrong, WeakerSteps, weaker_symbol, weaker_symbols, weaker_step}
+use Rattle.model.specs.Lines.{Line, said}
+use Rattle.model.specs.Lists.{In}
 use Rattle.model.specs.Spans.{part}
-use Rattle.model.specs.Relocate.{Program, code_fits, relocations_fit, functions_fit, program_fits, Taken, taken, slot_index, slot_at, is_call, is_load, call_slot, load_value, with_call, with_load, patch_extern, patch_found, patch_name, patch_symbol, patch, patched, on_slot, symbol_of, extern_name}
-use Rattle.model.specs.Resolve.{candidate, id_if_fits, fitting_id, catalogue_refusal, typed_refusal, wanted, wanted_refusal, line_refusal, missing_refusal, lines_refusal, given_id, given_address, settled, zeroed, given}
-use Rattle.model.specs.Runs.{State, Step, brings_fit, fits, reason, answered, granted, made, patched_code, next, runs}
+use Rattle.model.specs.Relocate.{Program, program_fits, Taken, taken, patch_found, patch_name, patch_symbol, patch, patched}
+use Rattle.model.specs.Resolve.{typed_refusal, wanted, wanted_refusal, line_refusal, missing_refusal, lines_refusal, given}
+use Rattle.model.specs.Runs.{State, Step, fits, reason, answered, granted, made, patched_code, next, runs}
 use Rattle.model.specs.Runs.Step.{resolve, fixup, relocate}
 use Rattle.model.specs.Slots.{slots, slots_bytes}
-use Rattle.model.specs.Tables.{Tables, Symbols, Catalogue, MAX_EXTERNS, tables_fit, symbols_fit}
+use Rattle.model.specs.Tables.{Tables, Symbols, Catalogue}
 use Rattle.model.specs.declared.refusal.Call.TheVariants as made_by
 use Rattle.model.specs.declared.refusal.Reason.{Reason}
 use Rattle.model.specs.declared.rows.Slot.{Slot}
 use Rattle.model.specs.declared.rows.Span.{Span}
 use Rattle.model.specs.declared.rows.Symbol.{Symbol}
 use Rattle.model.proofs.Granted.{granted_parts, granted_from, Clear, clear, lines_parts, lines_from, none_missing, go_on}
-use Rattle.model.proofs.Grants.{row_fits}
-use Rattle.model.proofs.History.{given_kept, kept_weak}
-use Rattle.model.proofs.Lookups.{err_not, or_else_from, when_parts, first_none, none_first}
+use Rattle.model.proofs.Lookups.{or_else_from, first_none, none_first}
 use Rattle.model.proofs.WeakCollect.{rows_masked, changed_is, symbols_fit_weak, masked_length, in_masked, map_masked, any_masked, all_masked, Found, lookup_masked, weaker, weakened, weakened_object, Alike, collect_alike}
 
 abbrev weakened_state : (ℕ → Bool) → State → State
@@ -80,34 +76,6 @@ clear_weak : (m : ℕ → Bool) (c : Option Catalogue) (ls : List (List ℕ)) (e
 clear_weak m c ls e xs k = search (rules, in_masked, typed_weak, lines_weak)
 
 -- ---- what a granted resolution sets
-weaker_same : (b : Bool) (x : Extern) → x.weak ≡ true → weaker b x ≡ x
-weaker_same b x e = search rules
-
-given_id_weak : (b : Bool) (o : Option ℕ) (x : Extern) → given_id o (weaker b x) ≡ weaker b (given_id o x)
-given_id_weak b o x = search rules
-
-cond_weak : (b t : Bool) (x y : Extern) → cond t (weaker b x) (weaker b y) ≡ weaker b (cond t x y)
-cond_weak b t x y = search rules
-
-fitting_weak : (c : Option Catalogue) (b : Bool) (x : Extern) → fitting_id c (weaker b x) ≡ fitting_id c x
-fitting_weak c b x = search rules
-
-settled_weak : (c : Option Catalogue) (ls : List Line) (b : Bool) (x : Extern) → settled c ls (weaker b x) ≡ weaker b (settled c ls x)
-settled_weak c ls b x = search rules
-
-fits_id : (c : Option Catalogue) (x : Extern) → catalogue_refusal c x ≡ None → (i : ℕ) × (fitting_id c x ≡ Some i)
-fits_id None x h = absurd (none-some _ (sym h))
-fits_id (Some c) x h =
-    let k = row_fits x (candidate c x) h in
-    (k.0.1.id, ap id_if_fits k.1 ∙ cond-true _ _ _ k.2)
-
--- a strong extern is resolved by a granted resolution
-strong_resolved : (c : Option Catalogue) (ls : List Line) (x : Extern) → typed_refusal c x ≡ None → missing_refusal ls x ≡ None → x.weak ≡ false → (settled c ls x).resolved ≡ true
-strong_resolved c ls x h k w = search rules
-
-zeroed_same : (x : Extern) → x.resolved ≡ true → zeroed x ≡ x
-zeroed_same x e = search rules
-
 given_weak : (c : Option Catalogue) (ls : List Line) (b : Bool) (x : Extern) → typed_refusal c x ≡ None → missing_refusal ls x ≡ None → given c ls (weaker b x) ≡ weaker b (given c ls x)
 given_weak c ls b x h k = search rules
 
@@ -128,15 +96,6 @@ cond_same true p q p' q' h k = h
 cond_same false p q p' q' h k = k
 
 module _ (code : List Slot) (t : Taken) where
-  call_weak : (id : Option ℕ) (resolved weak : Bool) (name : Span) (s : Slot) → Same (with_call code t (call_slot id resolved weak name t s)) (with_call code t (call_slot id resolved true name t s))
-  call_weak id resolved weak name s x e = search rules
-
-  load_weak : (id address : Option ℕ) (weak : Bool) (name : Span) → Same (with_load code name t (load_value id address weak)) (with_load code name t (load_value id address true))
-  load_weak id address weak name x e = search rules
-
-  extern_weak : (b : Bool) (x : Extern) (name : Span) → Same (patch_extern x name t code) (patch_extern (weaker b x) name t code)
-  extern_weak b x name = search rules
-
   found_weak : (name : Span) (o q : Option (ℕ × Extern)) → Found weaker o q → Same (patch_found o name t code) (patch_found q name t code)
   found_weak name o q w x e = search rules
 

@@ -1,19 +1,15 @@
 -- Externs made weak, and the collection of symbols declared weak.
-use Rattle.std.proofs.Common.{rules, ◌≡◌, ℕ, zero, suc, Bool, true, false, cond, ◌&&◌, ◌||◌, ltb, leb, List, [], ◌∷◌, map, length, Some, None, Ok, Err, Option, Result, sym, refl, ap, ◌∙◌, subst, inl, inr}
-use Rattle.std.specs.Option.{option_or}
+use Rattle.std.proofs.Common.{rules, ◌≡◌, ℕ, zero, suc, Bool, false, cond, ◌&&◌, ◌||◌, List, [], ◌∷◌, map, length, Some, None, Ok, Err, Option, Result, sym, refl, ap, ◌∙◌, subst, inl, inr}
 use Rattle.std.specs.List.{list_any, list_all}
 use Rattle.std.specs.Str.{bytes_eq}
 use Rattle.std.proofs.lemmas.Bool.{cond-true, cond-false, cond_both}
-use Rattle.model.specs.Chain.{type_at, resolve_type}
-use Rattle.model.specs.Collect.{symbol_named, chain_read, symbol_read, name_read, row_read, entry_read, duplicate, room_for_func, room_refusal, made, granted_unless, collect_rows, collect_entries, collect_section, collect, entries_of, section_of, has_func}
+use Rattle.model.specs.Chain.{type_at}
+use Rattle.model.specs.Collect.{symbol_named, symbol_read, name_read, row_read, entry_read, duplicate, made, granted_unless, collect_rows, collect_entries, collect_section, collect, entries_of, has_func}
 use Rattle.model.specs.Externs.{Extern, Object}
-use Rattle.model.specs.Kinds.{is_func, is_var}
 use Rattle.model.specs.Laws.{weaker_symbol, weaker_rows, weaker_symbols}
 use Rattle.model.specs.Lists.{In, ascends, lookup, with_first, each}
-use Rattle.model.specs.Names.{name_at, reads_as}
-use Rattle.model.specs.Tables.{Tables, Symbols, MAX_ROWS, MAX_EXTERNS, MAX_NAMES, tables_fit, symbols_fit, inside_if_any, symbol_name}
+use Rattle.model.specs.Tables.{Tables, Symbols, symbols_fit}
 use Rattle.model.specs.declared.btf.BtfType.{BtfType}
-use Rattle.model.specs.declared.btf.ChainError.{ChainError}
 use Rattle.model.specs.declared.btf.DataSecEntry.{DataSecEntry}
 use Rattle.model.specs.declared.refusal.Reason.{Reason}
 use Rattle.model.specs.declared.rows.Symbol.{Symbol}
@@ -116,9 +112,6 @@ cond_alike : {D X : Type 0} (f : D → X → X) (b : Bool) (p q : Result X Reaso
 cond_alike f b p q e h = search rules
 
 -- ---- one entry
-chain_alike : (n id : ℕ) (row : BtfType) (name : List ℕ) (b weak : Bool) (r : Result ℕ ChainError) → Alike weaker (chain_read n id row name weak r) (chain_read n id row name (b || weak) r)
-chain_alike n id row name b weak r = search rules
-
 symbol_alike : (ts : List BtfType) (n id : ℕ) (row : BtfType) (name : List ℕ) (o q : Option (ℕ × Symbol)) → Found weaker_symbol o q → Alike weaker (symbol_read ts n id row name o) (symbol_read ts n id row name q)
 symbol_alike ts n id row name o q w = search rules
 

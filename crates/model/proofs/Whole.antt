@@ -1,24 +1,21 @@
 -- Runs of a collected object: it stays well-formed, and the laws of every list of calls.
 use Rattle.std.proofs.lemmas.Grind.{common_steps}
-use Rattle.std.proofs.Common.{rules, ◌≡◌, ℕ, ◌+◌, ◌≤◌, Bool, true, cond, not, ◌&&◌, ◌||◌, leb, ◌⊎◌, List, [], ◌∷◌, map, length, Some, None, Option, sym, refl, ap, ◌∙◌, subst, inl, inr, ⊎_elim, arith}
+use Rattle.std.proofs.Common.{rules, ◌≡◌, ℕ, ◌+◌, ◌≤◌, Bool, true, cond, not, ◌&&◌, ◌||◌, ◌⊎◌, List, [], ◌∷◌, map, length, Option, sym, refl, ap, ◌∙◌, subst, inl, inr, ⊎_elim, arith}
 use Rattle.std.specs.List.{list_any, list_all}
 use Rattle.std.specs.Str.{bytes_eq}
-use Rattle.std.proofs.lemmas.List.{length-map, length-append}
-use Rattle.std.proofs.lemmas.Bool.{cond-true, cond-false, cond_both, cases_Bool, and_from, and_right, false_from_ne_true}
-use Rattle.model.specs.Added.{int_name, int_row, with_int}
-use Rattle.model.specs.Collect.{section_of}
-use Rattle.model.specs.Collected.{declares, distinct, found_fits, externs_fit, collected_if_any, object_fits}
+use Rattle.std.proofs.lemmas.List.{length-map}
+use Rattle.std.proofs.lemmas.Bool.{cond-true, cond_both, cases_Bool, and_from, and_right, false_from_ne_true}
+use Rattle.model.specs.Added.{int_name, with_int}
+use Rattle.model.specs.Collected.{distinct, externs_fit, collected_if_any, object_fits}
 use Rattle.model.specs.Externs.{Extern, Object}
 use Rattle.model.specs.Fixup.{fixed, fixed_for, int_of}
 use Rattle.model.specs.Laws.{Starts, GrantedExactlyWhen, StaysWellFormed, AddressStands, NamesFindTheirExtern}
 use Rattle.model.specs.Lines.{said}
-use Rattle.model.specs.Names.{name_at, reads_as}
 use Rattle.model.specs.Resolve.{given}
-use Rattle.model.specs.Runs.{State, Step, brings_fit, fits, reason, granted, made, next, runs}
+use Rattle.model.specs.Runs.{State, Step, fits, granted, made, next, runs}
 use Rattle.model.specs.Runs.Step.{resolve, fixup, relocate}
 use Rattle.model.specs.StepLaws.{FixupTwiceIsOnce, RoomSuffices}
-use Rattle.model.specs.Tables.{Tables, MAX_EXTERNS, tables_fit}
-use Rattle.model.specs.declared.refusal.Reason.TheVariants.{InvalidTable}
+use Rattle.model.specs.Tables.{Tables}
 use Rattle.model.proofs.Coded.{runs_length}
 use Rattle.model.proofs.Collects.{collection_collects, collect_untouched, collect_distinct, collect_placeholder}
 use Rattle.model.proofs.Fixes.{object_collected, fixed_fits, done, done_is, with_one, section_rewritten}
