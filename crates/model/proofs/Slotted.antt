@@ -39,11 +39,6 @@ pub slots_read_back : (ss : List Slot) → AllByRecursion FitsSlot ss → slots 
 slots_read_back ss h = ap slots (sym (append-nil (slots_bytes ss))) ∙ slots_after ss [] h ∙ append-nil ss
 
 -- ---- eight bytes are read and written back
--- n elements from k on
-abbrev reads : ℕ → ℕ → List ℕ → List ℕ
-reads k zero xs = []
-reads k (suc n) xs = get_or xs k 0 ∷ reads (k + 1) n xs
-
 slot_written : (xs : List ℕ) → length xs ≡ 8 → AllByRecursion (λ b. b < 256) xs → slot_bytes (slot_of xs) ≡ xs
 slot_written xs e h = grind (arith, common_steps)
 
