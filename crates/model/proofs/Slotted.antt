@@ -1,6 +1,6 @@
 -- The laws of slots.
 use Rattle.std.proofs.lemmas.Grind.{common_steps}
-use Rattle.std.proofs.Common.{rules, ◌≡◌, ℕ, zero, suc, ◌+◌, ◌*◌, ◌/◌, ◌%◌, ◌^◌, ◌<◌, List, [], ◌∷◌, ◌++◌, length, get_or, take, drop, sym, refl, ap, ◌∙◌, append-nil, arith, length-drop, take-append-drop, length-take, w16, w32, of_z}
+use Rattle.std.proofs.Common.{rules, ◌≡◌, ℕ, zero, suc, ◌*◌, ◌/◌, ◌%◌, ◌^◌, ◌<◌, List, [], ◌∷◌, ◌++◌, length, take, drop, sym, refl, ap, ◌∙◌, append-nil, arith, length-drop, take-append-drop, length-take, w16, w32, of_z}
 use mir.Facts.{Fits-of_z}
 use Rattle.std.specs.List.{AllByRecursion}
 use Rattle.std.proofs.ByRecursion.{All-take, All-drop}
@@ -39,11 +39,6 @@ pub slots_read_back : (ss : List Slot) → AllByRecursion FitsSlot ss → slots 
 slots_read_back ss h = ap slots (sym (append-nil (slots_bytes ss))) ∙ slots_after ss [] h ∙ append-nil ss
 
 -- ---- eight bytes are read and written back
--- n elements from k on
-abbrev reads : ℕ → ℕ → List ℕ → List ℕ
-reads k zero xs = []
-reads k (suc n) xs = get_or xs k 0 ∷ reads (k + 1) n xs
-
 slot_written : (xs : List ℕ) → length xs ≡ 8 → AllByRecursion (λ b. b < 256) xs → slot_bytes (slot_of xs) ≡ xs
 slot_written xs e h = grind (arith, common_steps)
 
