@@ -63,6 +63,7 @@ impl<'a> Fields<'a> {
         })
     }
 
+    // Three methods and not one with a number: a rule of the project has a method for each field.
     /// The first field of the line.
     pub fn address(&self) -> Field<'a>
         ensures held { result ≡ self.now.address }

@@ -12,6 +12,7 @@ pub fn written_lines_are_read()
 {}
 
 /// So does a text of good lines with a carriage return and a line feed after each.
+// A law of its own: unlike the one before, it lets a line end with a carriage return.
 pub fn returned_lines_are_read()
     ensures { ReturnedLinesAreRead }
 {}

@@ -52,6 +52,7 @@ pub fn look_up<S: LineSource>(source: &mut S, sightings: &mut BTreeMap<&[u8], Si
 {
     unlist(sightings);
     let mut buffer = [0u8; LINE_LEN];
+    // Counted by hand: a source lends one buffer, so it is no iterator, and the count stays at the greatest.
     let mut lines: u64 = 0;
     let end = 'lines: loop {
         match source.next(&mut buffer) {

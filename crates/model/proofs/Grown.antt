@@ -14,7 +14,7 @@ use Rattle.model.specs.Kinds.{of_kind, is_func, is_var, is_data_sec}
 use Rattle.model.specs.Lists.{In, lookup, number_of}
 use Rattle.model.specs.Names.{to_zero, name_at}
 use Rattle.model.specs.Spans.{follow}
-use Rattle.model.specs.Tables.{Tables, MAX_ROWS, MAX_NAMES, void_first, parts_of, parts_fit, tables_fit}
+use Rattle.model.specs.Tables.{Tables, MAX_ROWS, MAX_NAMES, void_first, parts_of_kind, parts_fit, tables_fit}
 use Rattle.model.specs.declared.btf.BtfType.{BtfType}
 use Rattle.model.specs.declared.refusal.Reason.{Reason}
 use Rattle.model.proofs.Lookups.{ok_same}
@@ -83,7 +83,7 @@ alike_parts [] (u ∷ us) a = absurd a
 alike_parts (t ∷ ts) [] a = absurd a
 alike_parts (t ∷ ts) (u ∷ us) a = λ i. parts_same t u a.0 i && alike_parts ts us a.1 i
 
-pub alike_spans : (k : ℕ) (ts us : List BtfType) → Alike ts us → parts_of k us ≡ parts_of k ts
+pub alike_spans : (k : ℕ) (ts us : List BtfType) → Alike ts us → parts_of_kind k us ≡ parts_of_kind k ts
 alike_spans k [] [] a = refl
 alike_spans k [] (u ∷ us) a = absurd a
 alike_spans k (t ∷ ts) [] a = absurd a
@@ -101,7 +101,7 @@ alike_section strings i (t ∷ ts) (u ∷ us) a =
     ∙ (λ j. cond (is_data_sec t) (section_here (name_at strings t.name_offset) i (alike_section strings (suc i) ts us a.1 j)) (alike_section strings (suc i) ts us a.1 j))
 
 -- ---- a row more
-pub spans_push : (k : ℕ) (ts : List BtfType) (u : BtfType) → of_kind k u ≡ false → parts_of k (ts ++ u ∷ []) ≡ parts_of k ts
+pub spans_push : (k : ℕ) (ts : List BtfType) (u : BtfType) → of_kind k u ≡ false → parts_of_kind k (ts ++ u ∷ []) ≡ parts_of_kind k ts
 spans_push k [] u o = cond-false (of_kind k u) _ _ o
 spans_push k (t ∷ ts) u o = let rest = spans_push k ts u o in λ i. cond (of_kind k t) (t.parts ∷ rest i) (rest i)
 
@@ -163,12 +163,12 @@ pub section_is : (strings : List ℕ) (ts : List BtfType) (d : ℕ) → section_
 section_is strings ts d h = search (rules, section_at)
 
 -- ---- the parts of a row of a kind
-pub parts_in : (k : ℕ) (ts : List BtfType) (d : ℕ) → d < length ts → of_kind k (type_at ts d) ≡ true → In (type_at ts d).parts (parts_of k ts)
+pub parts_in : (k : ℕ) (ts : List BtfType) (d : ℕ) → d < length ts → of_kind k (type_at ts d) ≡ true → In (type_at ts d).parts (parts_of_kind k ts)
 parts_in k [] d lt s = absurd (omega arith)
-parts_in k (t ∷ ts) zero lt s = subst (In t.parts) (sym (cond-true (of_kind k t) (t.parts ∷ parts_of k ts) (parts_of k ts) s)) (inl refl)
+parts_in k (t ∷ ts) zero lt s = subst (In t.parts) (sym (cond-true (of_kind k t) (t.parts ∷ parts_of_kind k ts) (parts_of_kind k ts) s)) (inl refl)
 parts_in k (t ∷ ts) (suc d) lt s =
     let rest = parts_in k ts d (omega arith) s in
-    cond_both (of_kind k t) (t.parts ∷ parts_of k ts) (parts_of k ts) (In (type_at ts d).parts) (λ e. inr rest) (λ e. rest)
+    cond_both (of_kind k t) (t.parts ∷ parts_of_kind k ts) (parts_of_kind k ts) (In (type_at ts d).parts) (λ e. inr rest) (λ e. rest)
 
 -- ---- well-formed tables, part by part
 pub record Fits (t : Tables) : Type 0 where
@@ -178,8 +178,8 @@ pub record Fits (t : Tables) : Type 0 where
   pub strings : length t.strings ≤ MAX_NAMES
   pub void : void_first t.types ≡ true
   pub parts : list_all parts_fit t.types ≡ true
-  pub sections : follow 0 (parts_of 15 t.types) (length t.entries) ≡ true
-  pub protos : follow 0 (parts_of 13 t.types) (length t.params) ≡ true
+  pub sections : follow 0 (parts_of_kind 15 t.types) (length t.entries) ≡ true
+  pub protos : follow 0 (parts_of_kind 13 t.types) (length t.params) ≡ true
 
 pub fits_is : (t : Tables) → tables_fit t ≡ true → Fits t
 fits_is t h = grind (arith, common_steps)

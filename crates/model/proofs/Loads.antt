@@ -5,7 +5,7 @@ use Rattle.std.proofs.lemmas.Bool.{cond_both, eqb-true, ltb-true}
 use Rattle.model.specs.Externs.{Extern, extern_named}
 use Rattle.model.specs.Laws.{name_in, name_of, Touches, LoadAlone}
 use Rattle.model.specs.Lists.{In}
-use Rattle.model.specs.Relocate.{Program, slots_of, Taken, taken, taken_in, points_into, slot_index, has_next, slot_at, is_call, is_load, call_slot, load_value, with_call, with_pair, with_load, patch_extern, patch_found, patch_name, patch_symbol, patch, patched, relocated}
+use Rattle.model.specs.Relocate.{Program, function_slots, Taken, taken, taken_in, points_into, slot_index, has_next, slot_at, is_call, is_load, call_slot, load_value, with_call, with_pair, with_load, patch_extern, patch_found, patch_name, patch_symbol, patch, patched, relocated}
 use Rattle.model.specs.SlotLaws.{FitsSlot}
 use Rattle.model.specs.Slots.{LOAD, CALL, low, high, with_imm, with_src}
 use Rattle.model.specs.Spans.{part, follow}
@@ -208,7 +208,7 @@ pub loads_hold :
     → extern_named n xs ≡ Some k
     → k.1.id ≡ None
     → k.1.address ≡ Some a
-    → follow 0 (slots_of p.functions) (length code) ≡ true
+    → follow 0 (function_slots p.functions) (length code) ≡ true
     → (relocated xs p code).1 ≡ None
     → (front : List Taken) (t : Taken) (back : List Taken)
     → taken p.functions p.relocations ≡ front ++ t ∷ back
@@ -220,7 +220,7 @@ loads_hold xs p code n a k row id address spans g front t back split alone =
     let r = reached xs ss code front t back code (record { size = refl; same = λ _. refl }) h in
     let s = r.step in
     let l = load_new xs ss t r.here s.new alone.place a k s.ok alone.symbol (ap (λ m. extern_named m xs) alone.name ∙ row) id address (ap (λ c. eqb c LOAD) (r.same.same (slot_index t)) ∙ alone.load) in
-    let span = follow_in (length code) 0 (slots_of p.functions) spans _ (in_map (λ (f : Function). f.slots) p.functions t.function (taken_of p.functions p.relocations t (subst (In t) (sym split) (in_right front (t ∷ back) t (inl refl))))) in
+    let span = follow_in (length code) 0 (function_slots p.functions) spans _ (in_map (λ (f : Function). f.slots) p.functions t.function (taken_of p.functions p.relocations t (subst (In t) (sym split) (in_right front (t ∷ back) t (inl refl))))) in
     let room : slot_index t + 1 < length r.here = subst (λ m. slot_index t + 1 < m) (sym r.same.size) (let x = ltb-true _ _ l.0 in omega arith) in
     let b = pair_holds r.here (slot_index t) a room in
     let codes = codes_more xs ss code r.here s.new t r.same s.ok in

@@ -12,7 +12,7 @@ use Rattle.model.specs.Laws.{Lists, address_in, address_of, Holds, LoadsHold, St
 use Rattle.model.specs.Lines.{Line, said, first_address}
 use Rattle.model.specs.Lines.Line.{line}
 use Rattle.model.specs.Lists.{In, lookup}
-use Rattle.model.specs.Relocate.{Program, slots_of, program_fits, slot_index}
+use Rattle.model.specs.Relocate.{Program, function_slots, program_fits, slot_index}
 use Rattle.model.specs.Resolve.{wanted, given}
 use Rattle.model.specs.Runs.{State, Step, granted, next, runs}
 use Rattle.model.specs.Runs.Step.{resolve, fixup, relocate}
@@ -71,7 +71,7 @@ named_next n s st = search (rules, next_change, named_map, change, change_kept)
 held : (new old : List Slot) (i a : ℕ) → a < 2 ^ 64 → Paired new old i a → Holds new i a
 held new old i a l p = search rules
 
-program_follow : (p : Program) (bs : List ℕ) → program_fits p bs ≡ true → follow 0 (slots_of p.functions) (length bs / 8) ≡ true
+program_follow : (p : Program) (bs : List ℕ) → program_fits p bs ≡ true → follow 0 (function_slots p.functions) (length bs / 8) ≡ true
 program_follow p bs h = grind (arith, common_steps)
 
 relocation_holds :
@@ -86,7 +86,7 @@ relocation_holds :
 relocation_holds st p n a k b l row id at g front t back split alone =
     let q = granted_parts (relocate p) st g in
     let spans = program_follow p st.code (and_parts (object_fits st.object) (program_fits p st.code) q.0).1 in
-    let h = loads_hold st.object.externs p (slots st.code) n a k row id at (subst (λ m. follow 0 (slots_of p.functions) m ≡ true) (sym (slots_length st.code)) spans) q.1 front t back split alone in
+    let h = loads_hold st.object.externs p (slots st.code) n a k row id at (subst (λ m. follow 0 (function_slots p.functions) m ≡ true) (sym (slots_length st.code)) spans) q.1 front t back split alone in
     subst (λ x. Holds x (slot_index t) a) (sym (relocated_slots p st b q.0)) (held _ h.0 (slot_index t) a l h.1)
 
 -- ---- the law, of externs that have no id yet

@@ -7,7 +7,7 @@ use Rattle.model.specs.Collected.{Collected, object_fits}
 use Rattle.model.specs.Externs.{Extern, Object}
 use Rattle.model.specs.Kinds.{kind_number, of_kind}
 use Rattle.model.specs.Lists.{ascends, earlier}
-use Rattle.model.specs.Relocate.{Program, slots_of, functions_fit, relocations_fit, code_fits, program_fits}
+use Rattle.model.specs.Relocate.{Program, function_slots, functions_fit, relocations_fit, code_fits, program_fits}
 use Rattle.model.specs.Slots.{whole_slots}
 use Rattle.model.specs.Spans.{inside, end_of, follow}
 use Rattle.model.specs.TableLaws.{SpansFollow, WellFormedTables, WellFormedObject, Before, WellFormedSymbols, WellFormedCatalogue, WellFormedProgram, TablesAreTested}
@@ -152,7 +152,7 @@ module _ (p : Program) (code : List ℕ) where
       let r = and_parts (leb (length p.relocations) MAX_ROWS) _ d.0 in
       let f = and_parts (leb (length p.functions) MAX_FUNCTIONS) _ d.1 in
       let g = and_parts (list_all offset_fits p.functions) _ f.1 in
-      let k = and_parts (ascends (λ x y. earlier (place x) (place y)) p.functions) (follow 0 (slots_of p.functions) (length code / 8)) g.1 in
+      let k = and_parts (ascends (λ x y. earlier (place x) (place y)) p.functions) (follow 0 (function_slots p.functions) (length code / 8)) g.1 in
       let m = eqb-true (length code % 8) 0 b.0 in
       record {
         slots = length code / 8;
@@ -164,7 +164,7 @@ module _ (p : Program) (code : List ℕ) where
         few_functions = leb-true _ _ f.0;
         offsets = λ x i. leb-true _ _ (all_in offset_fits p.functions g.0 x i);
         functions = (keys_ascend place p.functions).0 k.0;
-        spans = (follow_is (length code / 8) (slots_of p.functions)).0 k.1;
+        spans = (follow_is (length code / 8) (function_slots p.functions)).0 k.1;
       }
 
   formed_program : WellFormedProgram p code → program_fits p code ≡ true
@@ -180,7 +180,7 @@ module _ (p : Program) (code : List ℕ) where
       (and_from (leb (length p.functions) MAX_FUNCTIONS) _ (le-leb _ _ w.few_functions)
       (and_from (list_all offset_fits p.functions) _ (in_all offset_fits p.functions (λ f i. le-leb _ _ (w.offsets f i)))
       (and_from (ascends (λ x y. earlier (place x) (place y)) p.functions) _ ((keys_ascend place p.functions).1 w.functions)
-      ((follow_is (length code / 8) (slots_of p.functions)).1 (subst (λ n. SpansFollow (slots_of p.functions) n) same w.spans)))))))
+      ((follow_is (length code / 8) (function_slots p.functions)).1 (subst (λ n. SpansFollow (function_slots p.functions) n) same w.spans)))))))
 
 -- ---- the whole
 pub tables_are_tested : TablesAreTested

@@ -23,15 +23,15 @@ pub record Program : Type 0 where
   pub symbols : Symbols
 
 -- the slots of each function
-abbrev pub slots_of : List Function → List Span
-slots_of fs = map (λ f. f.slots) fs
+abbrev pub function_slots : List Function → List Span
+function_slots fs = map (λ f. f.slots) fs
 
 -- functions are well-formed with code of n slots
 abbrev pub functions_fit : List Function → ℕ → Bool
 functions_fit fs n =
     nat_le (length fs) MAX_FUNCTIONS
     && (list_all (λ f. nat_le f.section_offset MAX_SECTION_OFFSET) fs
-    && (ascends (λ f g. earlier (f.section, f.address) (g.section, g.address)) fs && follow 0 (slots_of fs) n))
+    && (ascends (λ f g. earlier (f.section, f.address) (g.section, g.address)) fs && follow 0 (function_slots fs) n))
 
 abbrev pub relocations_fit : List Relocation → Bool
 relocations_fit rs = nat_le (length rs) MAX_ROWS && ascends (λ r s. earlier (r.section, r.offset) (s.section, s.offset)) rs

@@ -5,9 +5,9 @@ use Rattle.model.specs.Collected.{Collected, object_fits}
 use Rattle.model.specs.Externs.{Object}
 use Rattle.model.specs.Kinds.{kind_number, of_kind}
 use Rattle.model.specs.Lists.{In}
-use Rattle.model.specs.Relocate.{Program, slots_of, program_fits}
+use Rattle.model.specs.Relocate.{Program, function_slots, program_fits}
 use Rattle.model.specs.Spans.{end_of}
-use Rattle.model.specs.Tables.{Tables, Symbols, Catalogue, parts_of, tables_fit, symbols_fit, catalogue_fits}
+use Rattle.model.specs.Tables.{Tables, Symbols, Catalogue, parts_of_kind, tables_fit, symbols_fit, catalogue_fits}
 use Rattle.model.specs.declared.btf.BtfType.{BtfType}
 use Rattle.model.specs.declared.rows.CatalogueRow.{CatalogueRow}
 use Rattle.model.specs.declared.rows.Function.{Function}
@@ -36,8 +36,8 @@ pub record WellFormedTables (t : Tables) : Type 0 where
   pub strings : length t.strings ≤ 262144
   pub some : 0 < length t.types
   pub void : kind_number (type_at t.types 0).kind ≡ 0
-  pub sections : SpansFollow (parts_of 15 t.types) (length t.entries)
-  pub protos : SpansFollow (parts_of 13 t.types) (length t.params)
+  pub sections : SpansFollow (parts_of_kind 15 t.types) (length t.entries)
+  pub protos : SpansFollow (parts_of_kind 13 t.types) (length t.params)
   pub others : (r : BtfType) → In r t.types → of_kind 15 r ≡ false → of_kind 13 r ≡ false → r.parts.len ≡ 0
 
 -- an object is well-formed if its tables are and it has no externs, or at most 256 and is as collection leaves it
@@ -77,7 +77,7 @@ pub record WellFormedProgram (p : Program) (code : List ℕ) : Type 0 where
   pub few_functions : length p.functions ≤ 4096
   pub offsets : (f : Function) → In f p.functions → f.section_offset ≤ 4294967295
   pub functions : (front : List Function) (f : Function) (middle : List Function) (g : Function) (back : List Function) → p.functions ≡ front ++ f ∷ (middle ++ g ∷ back) → Before (f.section, f.address) (g.section, g.address)
-  pub spans : SpansFollow (slots_of p.functions) slots
+  pub spans : SpansFollow (function_slots p.functions) slots
 
 -- ---- the tests say exactly this
 pub record TablesAreTested : Type 0 where

@@ -43,9 +43,9 @@ void_first [] = false
 void_first (t ∷ ts) = of_kind 0 t
 
 -- the parts of each row of a kind
-abbrev pub parts_of : ℕ → List BtfType → List Span
-parts_of k [] = []
-parts_of k (t ∷ ts) = cond (of_kind k t) (t.parts ∷ parts_of k ts) (parts_of k ts)
+abbrev pub parts_of_kind : ℕ → List BtfType → List Span
+parts_of_kind k [] = []
+parts_of_kind k (t ∷ ts) = cond (of_kind k t) (t.parts ∷ parts_of_kind k ts) (parts_of_kind k ts)
 
 -- a row that is no DataSec and no FuncProto has no parts
 abbrev pub parts_fit : BtfType → Bool
@@ -62,7 +62,7 @@ tables_fit t =
     few t
     && (void_first t.types
     && (list_all parts_fit t.types
-    && (follow 0 (parts_of 15 t.types) (length t.entries) && follow 0 (parts_of 13 t.types) (length t.params))))
+    && (follow 0 (parts_of_kind 15 t.types) (length t.entries) && follow 0 (parts_of_kind 13 t.types) (length t.params))))
 
 -- ---- symbols, with the table of their names
 pub record Symbols : Type 0 where

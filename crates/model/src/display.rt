@@ -6,6 +6,7 @@ use crate::refusal::{Call, Named, Reason, Refusal};
 use std::fmt;
 use texts::hex::Hex;
 
+// Names are not by Debug: a derive prints `Collect`, and promises nothing of what it prints.
 impl Call {
     /// The name of the call.
     pub fn name(self) -> &'static str
@@ -64,6 +65,7 @@ impl fmt::Display for Named {
 }
 
 /// A reason that is printed as its values.
+// A type of its own, so that the text of a refusal is one format that names the values.
 #[derive(Clone, Copy)]
 pub struct Values(pub Reason);
 

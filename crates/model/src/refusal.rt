@@ -29,7 +29,8 @@ pub enum Named {
 
 /// Why a call was refused; `row` is the first entry, extern or relocation that meets it, by its row,
 /// and `name` the place of a name: of an extern in the type strings, of a relocation's symbol in the symbol names.
-#[derive(Clone, Copy, Debug, PartialEq)]
+// Row and name are fields of each case: a struct around the two would only make each pattern longer.
+#[derive(Clone, Copy, Debug, PartialEq, Eq)]
 pub enum Reason {
     /// A table breaks a limit, an order or a span, or an object is not as collection leaves it.
     InvalidTable,
@@ -128,7 +129,7 @@ pub enum Reason {
 }
 
 /// A refusal: the call it came from, and why.
-#[derive(Clone, Copy, Debug, PartialEq)]
+#[derive(Clone, Copy, Debug, PartialEq, Eq)]
 pub struct Refusal {
     /// The call.
     pub call: Call,
@@ -137,7 +138,7 @@ pub struct Refusal {
 }
 
 /// What a refusal tells: its number, and where it has them a row, the place of a name, a line, two addresses and a fault.
-#[derive(Clone, Copy, Debug, PartialEq)]
+#[derive(Clone, Copy, Debug, PartialEq, Eq)]
 pub struct Told {
     /// The number, from 1 to 21; want of memory has none.
     pub number: Option<u8>,
@@ -166,6 +167,7 @@ impl Named {
 
 impl Reason {
     /// The number, from 1 to 21; want of memory has none.
+    // A rule of the project fixes the numbers; they are told to people, and code matches on the reason.
     pub fn number(self) -> Option<u8>
         ensures { result ≡ (told_of self).number }
     {

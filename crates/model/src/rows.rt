@@ -55,6 +55,7 @@ pub struct CatalogueRow {
     /// The id of its type in the kernel's BTF.
     pub id: u32,
     /// Whether its type is compatible with the one that the probe declares.
+    // A flag, not an Option of the id: a row that does not fit is refused otherwise than one that is not there.
     pub fits: bool,
 }
 
@@ -70,6 +71,7 @@ pub struct ExternDesc {
     /// Whether it may be missing.
     pub is_weak: bool,
     /// Whether it has an id or a nonzero address.
+    // A flag, not an Option: an address of zero is an address too, and resolves nothing; a load is given the first of an id and an address.
     pub is_resolved: bool,
     /// The id of its type in the kernel's BTF.
     pub kernel_btf_id: Option<u32>,
