@@ -6,9 +6,7 @@ ghost use Rattle.kallsyms.specs.Cut.{lines_from};
 ghost use Rattle.kallsyms.specs.Line.{count_of};
 
 use kallsyms::text::Text;
-use lookup::scan::look_up;
-use lookup::sighting::Sighting;
-use std::collections::BTreeMap;
+use lookup::scan::{look_up, unlisted};
 use std::process::ExitCode;
 use std::time::{Duration, Instant};
 use std::{env, fs, io};
@@ -19,10 +17,7 @@ const RUNS: u32 = 15;
 fn timed(rt: &HostRuntime, bytes: &[u8], names: &[String]) -> io::Result<(Duration, u64)>
     ensures { IfOk result (λ t. t.1 ≡ count_of (lines_from 1 bytes.now)) }
 {
-    let mut sightings = BTreeMap::new(rt.alloc());
-    for name in names {
-        sightings.insert(name.as_bytes(), Sighting::Unlisted)?;
-    }
+    let mut sightings = unlisted(rt.alloc(), names)?;
     let start = Instant::now(rt)?;
     let reading = look_up(&mut Text::new(bytes), &mut sightings);
     Ok((start.elapsed(rt)?, reading.lines))

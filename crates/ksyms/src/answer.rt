@@ -1,12 +1,13 @@
 // What the tool answers, as text.
 ghost use Rattle.std.specs.Prelude.{◌≡◌, ◌++◌, IfOk, string_bytes, OnOk};
 ghost use Rattle.ksyms.specs.Answers.{end_lines, told_lines, answer_text, Answers};
-ghost use Rattle.ksyms.specs.Tells.{HasNames, Tells};
+ghost use Rattle.lookup.specs.Asked.{HasNames};
+ghost use Rattle.ksyms.specs.Tells.{Tells};
 
 use crate::summary::{Summary, Told, found};
 use kallsyms::ends::End;
 use kallsyms::text::Text;
-use lookup::scan::{Reading, look_up};
+use lookup::scan::{Reading, look_up, unlisted};
 use lookup::sighting::Sighting;
 use std::alloc::{AllocError, Global};
 use std::collections::BTreeMap;
@@ -22,17 +23,6 @@ fn end_lines(heap: Global, end: End) -> Result<String, AllocError>
             format!(in heap; "the list is broken: {fault}; only the lines before it were read\n")
         }
     }
-}
-
-// A map that has each of the names.
-fn asked<'a>(heap: Global, names: &'a [String]) -> Result<BTreeMap<&'a [u8], Sighting>, AllocError>
-    ensures { IfOk result (λ m. HasNames names.now m) }
-{
-    let mut sightings = BTreeMap::new(heap);
-    for name in names {
-        sightings.insert(name.as_bytes(), Sighting::Unlisted)?;
-    }
-    Ok(sightings)
 }
 
 // What a map says of each of the names, in their order.
@@ -84,7 +74,7 @@ fn answer_text(heap: Global, tolds: &[Told], reading: Reading) -> Result<String,
 pub fn answer(heap: Global, bytes: &[u8], names: &[String]) -> Result<String, AllocError>
     ensures { IfOk result (λ s. Answers bytes.now names.now (string_bytes s)) }
 {
-    let mut sightings = asked(heap, names)?;
+    let mut sightings = unlisted(heap, names)?;
     let reading = look_up(&mut Text::new(bytes), &mut sightings);
     let tolds = told_of(heap, names, &sightings)?;
     answer_text(heap, &tolds, reading)

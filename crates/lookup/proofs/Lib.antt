@@ -1,3 +1,4 @@
+pub mod Asking
 pub mod Alone
 pub mod Noting
 pub mod Saying

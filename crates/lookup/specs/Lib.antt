@@ -3,3 +3,4 @@ pub mod Says
 pub mod Laws
 pub mod LookedUp
 pub mod Noted
+pub mod Asked

@@ -1,6 +1,7 @@
 // One reading of a list for several names.
-ghost use Rattle.std.specs.Prelude.{◌≡◌, ℕ, List, [], IfSome};
+ghost use Rattle.std.specs.Prelude.{◌≡◌, ℕ, List, [], IfSome, IfOk};
 ghost use Rattle.std.specs.BTreeMap.{keys};
+ghost use Rattle.lookup.specs.Asked.{Asked};
 ghost use Rattle.lookup.specs.LookedUp.{LookedUp, sighting_of};
 ghost use Rattle.lookup.specs.Noted.{Notes};
 ghost use Rattle.lookup.specs.Says.{Says};
@@ -10,7 +11,19 @@ use kallsyms::address::read_address;
 use kallsyms::ends::End;
 use kallsyms::fields::Fields;
 use kallsyms::source::{LINE_LEN, LineSource};
+use std::alloc::{AllocError, Global};
 use std::collections::BTreeMap;
+
+/// A map that has each of these names, unlisted, and no others.
+pub fn unlisted(heap: Global, names: &[String]) -> Result<BTreeMap<&[u8], Sighting>, AllocError>
+    ensures { IfOk result (λ m. Asked names.now m) }
+{
+    let mut sightings = BTreeMap::new(heap);
+    for name in names {
+        sightings.insert(name.as_bytes(), Sighting::Unlisted)?;
+    }
+    Ok(sightings)
+}
 
 // Takes one line more into what is said of the name that it lists.
 fn note_line(sightings: &mut BTreeMap<&[u8], Sighting>, line_number: u64, line: &[u8])

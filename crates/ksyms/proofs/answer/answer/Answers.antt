@@ -6,7 +6,7 @@ use Rattle.ksyms.proofs.Telling.{has_same}
 use Rattle.ksyms.proofs.answer.answer.Goals as goal
 
 pub told_of-requires : goal.told_of-requires
-told_of-requires c = has_same c.args.names.now c.in_ok-sightings.sightings c.look_up-reading.new.sightings c.look_up-reading.ensures.found.names c.in_ok-sightings.ensures
+told_of-requires c = has_same c.args.names.now c.in_ok-sightings.sightings c.look_up-reading.new.sightings c.look_up-reading.ensures.found.names c.in_ok-sightings.ensures.has
 
 pub returns : goal.returns
 returns c =

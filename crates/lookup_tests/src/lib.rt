@@ -1,0 +1,5 @@
+// What crate `lookup` does on examples.
+#![tactic(auto)]
+
+#[cfg(test)]
+mod lookups;

@@ -1,0 +1,72 @@
+use kallsyms::ends::Fault;
+use kallsyms::text::Text;
+use lookup::scan::{look_up, unlisted};
+use lookup::sighting::Sighting;
+use std::test::Fail;
+
+#[test]
+fn names_are_put_into_a_map_unlisted(rt: HostRuntime) -> Result<(), Fail> {
+    let names = vec![in rt.alloc();
+        String::from_str(rt.alloc(), "card_q")?,
+        String::from_str(rt.alloc(), "card_q")?,
+    ]?;
+    let sightings = unlisted(rt.alloc(), &names)?;
+    assert_eq!(rt; sightings.len(), 1, "asked twice, there once");
+    assert_eq!(rt;
+        sightings.get(b"card_q".as_slice()).copied(),
+        Some(Sighting::Unlisted)
+    );
+    Ok(())
+}
+
+#[test]
+fn every_name_gets_what_the_lines_say(rt: HostRuntime) -> Result<(), Fail> {
+    let names = vec![in rt.alloc();
+        String::from_str(rt.alloc(), "a")?,
+        String::from_str(rt.alloc(), "b")?,
+        String::from_str(rt.alloc(), "c")?,
+    ]?;
+    let mut sightings = unlisted(rt.alloc(), &names)?;
+    let reading = look_up(
+        &mut Text::new(b"0 d a\na0 d b\nb0 d b\n\xff\na0 d c\n"),
+        &mut sightings,
+    );
+    assert_eq!(rt; reading.lines, 3);
+    assert_eq!(rt; reading.end, Err(Fault::ByteTooLarge { line: 4 }));
+    assert_eq!(rt;
+        sightings.get(b"a".as_slice()).copied(),
+        Some(Sighting::OnlyZero { line: 1 })
+    );
+    let two = Sighting::TwoAddresses {
+        line: 2,
+        address: 160,
+        other_line: 3,
+        other_address: 176,
+    };
+    assert_eq!(rt; sightings.get(b"b".as_slice()).copied(), Some(two));
+    assert_eq!(rt;
+        sightings.get(b"c".as_slice()).copied(),
+        Some(Sighting::Unlisted)
+    );
+    Ok(())
+}
+
+#[test]
+fn what_was_said_before_is_forgotten(rt: HostRuntime) -> Result<(), Fail> {
+    let names = vec![in rt.alloc(); String::from_str(rt.alloc(), "a")?]?;
+    let mut sightings = unlisted(rt.alloc(), &names)?;
+    let _ = look_up(&mut Text::new(b"a0 d a"), &mut sightings);
+    assert_eq!(rt;
+        sightings.get(b"a".as_slice()).copied(),
+        Some(Sighting::At {
+            line: 1,
+            address: 160
+        })
+    );
+    let _ = look_up(&mut Text::new(b"a0 d b"), &mut sightings);
+    assert_eq!(rt;
+        sightings.get(b"a".as_slice()).copied(),
+        Some(Sighting::Unlisted)
+    );
+    Ok(())
+}
