@@ -1,8 +1,7 @@
 // What the tool answers, as text.
 ghost use Rattle.std.specs.Prelude.{◌≡◌, ◌++◌, IfOk, string_bytes, OnOk};
 ghost use Rattle.ksyms.specs.Answers.{end_lines, told_lines, answer_text, Answers};
-ghost use Rattle.lookup.specs.Asked.{HasNames};
-ghost use Rattle.ksyms.specs.Tells.{Tells};
+ghost use Rattle.ksyms.specs.Tells.{HasNames, Tells};
 
 use crate::summary::{Summary, Told, found};
 use kallsyms::ends::End;

@@ -1,51 +1,25 @@
 -- Names that are put into a map one by one. Assumes nothing.
-use Rattle.std.proofs.Common.{◌≡◌, ℕ, ◌+◌, ◌<◌, ◌≤◌, List, [], length, get_or, take, Some, string_bytes, String, refl, sym, ap, ◌∙◌, subst, arith}
-use Rattle.std.proofs.lemmas.Bool.{cond-true, cond_both}
-use Rattle.std.proofs.lemmas.List.{take_all, get_or-map}
-use Rattle.std.proofs.lemmas.List.Elements.{All-more, All-weaker}
-use Rattle.std.proofs.lemmas.Option.{IfSome_then}
-use Rattle.std.proofs.lemmas.Map.Text.{btree_map_updates_str}
-use Rattle.std.proofs.lemmas.Slice.Eq.{bytes_eq-Decides}
-use Rattle.std.specs.BTreeMap.{UpdatesBy}
-use Rattle.std.specs.Cmp.Lexicographic.{slice_cmp}
-use Rattle.std.specs.Option.{IsSome, IfSome}
-use Rattle.std.specs.Ordering.{nat_cmp}
+use Rattle.std.proofs.Common.{◌≡◌, ℕ, ◌+◌, ◌<◌, Bool, true, false, cond, List, [], ◌∷◌, ◌++◌, length, get_or, take, Some, Option, string_bytes, String, refl, sym, ap, ◌∙◌}
+use Rattle.std.proofs.lemmas.List.{take_more}
 use Rattle.std.specs.Str.{bytes_eq}
 use Rattle.std.specs.declared.alloc.Global.{Global}
-use Rattle.lookup.specs.Asked.{name_at, HasNames, OnlyOf, Asked}
-use Rattle.lookup.specs.LookedUp.{Sightings, sighting_of}
+use Rattle.lookup.specs.Asked.{asked}
+use Rattle.lookup.specs.declared.sighting.Sighting.{Sighting}
 use Rattle.lookup.specs.declared.sighting.Sighting.TheVariants.{Unlisted}
 
--- the first i names are in the map, and nothing else
-pub record AskedUpTo (names : List (String Global)) (i : ℕ) (m : Sightings) : Type 0 where
-  pub has : HasNames (take i names) m
-  pub only : OnlyOf names i m
+-- two tests for one value, in either order
+either_order : (s t : Bool) (x o : Option Sighting) → cond s x (cond t x o) ≡ cond t x (cond s x o)
+either_order true true x o = refl
+either_order true false x o = refl
+either_order false t x o = refl
+
+push : (names : List (String Global)) (name : String Global) (bs : List ℕ) → asked (names ++ name ∷ []) bs ≡ cond (bytes_eq (string_bytes name) bs) (Some Unlisted) (asked names bs)
+push [] name bs = refl
+push (n ∷ names) name bs =
+    ap (cond (bytes_eq (string_bytes n) bs) (Some Unlisted)) (push names name bs)
+    ∙ either_order (bytes_eq (string_bytes n) bs) (bytes_eq (string_bytes name) bs) (Some Unlisted) (asked names bs)
 
 -- one name more
-pub asked_more : (names : List (String Global)) (i : ℕ) (name : String Global) (bs : List ℕ) (old new : Sightings)
-    → AskedUpTo names i old
-    → i < length names
-    → name ≡ get_or names i name
-    → bs ≡ string_bytes name
-    → UpdatesBy (λ x y. slice_cmp nat_cmp x.now y.now) (λ k. slice_cmp nat_cmp bs k.now) old new (Some Unlisted)
-    → AskedUpTo names (i + 1) new
-asked_more names i name bs old new before lt is same updates =
-    let Has : Sightings → String Global → Type 0 = λ m x. IsSome (sighting_of m (string_bytes x)) in
-    let now = btree_map_updates_str bs old new (Some Unlisted) updates in
-    let kept : (x : String Global) → Has old x → Has new x =
-    λ x h. rw (now (string_bytes x)) (cond_both (bytes_eq bs (string_bytes x)) _ _ IsSome (λ _. refl) (λ _. h)) in
-    let here : Has new name = rw (← same, now bs, cond-true _ _ _ ((bytes_eq-Decides bs bs).1 refl)) refl in
-    let place : name_at names i ≡ bs = get_or-map string_bytes names i name [] lt ∙ ap string_bytes (sym is) ∙ sym same in
-    record {
-      has = All-more (Has new) names i name lt (All-weaker (Has old) (Has new) kept (take i names) before.has) (subst (Has new) is here);
-      only = λ q. rw (now q)
-          (cond_both (bytes_eq bs q) _ _ (λ o. IfSome o (λ s. (s ≡ Unlisted) × ((k : ℕ) × (k < i + 1) × (name_at names k ≡ q))))
-          (λ t. (refl, (i, omega arith, place ∙ (bytes_eq-Decides bs q).0 t)))
-          (λ _. IfSome_then (sighting_of old q) (before.only q) (λ s h. (h.0, (h.1.0, (let lt = h.1.1 in omega arith), h.1.2)))));
-    }
-
--- and all of them
-pub asked_all : (names : List (String Global)) (i : ℕ) (m : Sightings) → AskedUpTo names i m → length names ≤ i → i ≤ length names → Asked names m
-asked_all names i m h ge le =
-    let all : i ≡ length names = omega arith in
-    record { has = subst (λ xs. HasNames xs m) (take_all i names ge) h.has; only = subst (λ n. OnlyOf names n m) all h.only }
+pub one_more : (names : List (String Global)) (i : ℕ) (name : String Global) (bs : List ℕ) → i < length names → name ≡ get_or names i name → asked (take (i + 1) names) bs ≡ cond (bytes_eq (string_bytes name) bs) (Some Unlisted) (asked (take i names) bs)
+one_more names i name bs lt is =
+    ap (λ xs. asked xs bs) (take_more names i name lt ∙ ap (λ x. take i names ++ x ∷ []) (sym is)) ∙ push (take i names) name bs

@@ -1,7 +1,7 @@
 // One reading of a list for several names.
-ghost use Rattle.std.specs.Prelude.{◌≡◌, ℕ, List, [], IfSome, IfOk};
+ghost use Rattle.std.specs.Prelude.{◌≡◌, ℕ, List, [], IfSome, IfOk, OnOk};
 ghost use Rattle.std.specs.BTreeMap.{keys};
-ghost use Rattle.lookup.specs.Asked.{Asked};
+ghost use Rattle.lookup.specs.Asked.{Adds, Asked};
 ghost use Rattle.lookup.specs.LookedUp.{LookedUp, sighting_of};
 ghost use Rattle.lookup.specs.Noted.{Notes};
 ghost use Rattle.lookup.specs.Says.{Says};
@@ -14,13 +14,22 @@ use kallsyms::source::{LINE_LEN, LineSource};
 use std::alloc::{AllocError, Global};
 use std::collections::BTreeMap;
 
+// Puts a name into a map, unlisted.
+fn ask<'a>(sightings: &mut BTreeMap<&'a [u8], Sighting>, name: &'a [u8]) -> Result<(), AllocError>
+    ensures { OnOk result (Adds name.now sightings.old sightings.new) }
+{
+    sightings.insert(name, Sighting::Unlisted)?;
+    Ok(())
+}
+
 /// A map that has each of these names, unlisted, and no others.
+#[tactic(auto, using(crate::proofs::Asking::one_more))]
 pub fn unlisted(heap: Global, names: &[String]) -> Result<BTreeMap<&[u8], Sighting>, AllocError>
     ensures { IfOk result (λ m. Asked names.now m) }
 {
     let mut sightings = BTreeMap::new(heap);
     for name in names {
-        sightings.insert(name.as_bytes(), Sighting::Unlisted)?;
+        ask(&mut sightings, name.as_bytes())?;
     }
     Ok(sightings)
 }

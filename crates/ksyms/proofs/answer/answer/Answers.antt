@@ -2,11 +2,13 @@ use Rattle.std.proofs.Common.{◌≡◌, string_bytes}
 use Rattle.std.proofs.lemmas.Result.{IfOk-weaker}
 use Rattle.ksyms.specs.Answers.{answer_text, Answers}
 use Rattle.ksyms.proofs.Answered.{answered}
-use Rattle.ksyms.proofs.Telling.{has_same}
+use Rattle.ksyms.proofs.Telling.{asked_has, has_same}
 use Rattle.ksyms.proofs.answer.answer.Goals as goal
 
 pub told_of-requires : goal.told_of-requires
-told_of-requires c = has_same c.args.names.now c.in_ok-sightings.sightings c.look_up-reading.new.sightings c.look_up-reading.ensures.found.names c.in_ok-sightings.ensures.has
+told_of-requires c =
+    let names = c.args.names.now in
+    has_same names c.in_ok-sightings.sightings c.look_up-reading.new.sightings c.look_up-reading.ensures.found.names (asked_has names c.in_ok-sightings.sightings c.in_ok-sightings.ensures)
 
 pub returns : goal.returns
 returns c =

@@ -1,0 +1,5 @@
+use Rattle.std.proofs.lemmas.Map.Text.{btree_map_updates_str}
+use Rattle.lookup.proofs.scan.ask.Goals as goal
+
+pub returns : goal.returns
+returns c = btree_map_updates_str c.args.name.now c.args.sightings.now c.insert.new.self _ c.in_ok-insert.ensures.updates
