@@ -419,9 +419,9 @@ pub record WorkedCases : Type 0 where
   pub fix_tables_first : answer fixup (with_externs (card ∷ card ∷ [])) ≡ Err (record { call = made_by.Fixup; reason = InvalidTable })
   pub adds_an_int : (next fixup (with_card (one_card long))).object ≡ card_fixed 6 long (int_row 26 ∷ []) (codes "int\0") (record { type_len = 176; str_off = 176; str_len = 30 })
   pub takes_the_int : (next fixup (with_card (one_card (int_row 0)))).object ≡ card_fixed 5 (int_row 0) [] [] (record { type_len = 160; str_off = 160; str_len = 26 })
-  pub no_room_for_an_int : refusal fixup (with_card (with_header 4294967280 0 (one_card long))) ≡ Some NoRoom
-  pub room_for_an_int : refusal fixup (with_card (with_header 4294967279 0 (one_card long))) ≡ None
-  pub no_externs : next fixup (record { object = without_externs probe; code = code }) ≡ record { object = without_externs probe; code = code }
+  pub no_room_for_an_int : refusal fixup (record (with_card (with_header 4294967280 0 (one_card long))) { code = [] }) ≡ Some NoRoom
+  pub room_for_an_int : refusal fixup (record (with_card (with_header 4294967279 0 (one_card long))) { code = [] }) ≡ None
+  pub no_externs : next fixup (record { object = without_externs probe; code = [] }) ≡ record { object = without_externs probe; code = [] }
   pub fixes : (next fixup start).object ≡ record {
     tables = record {
       types = no_row
