@@ -14,6 +14,7 @@ use std::{env, fs, io};
 const RUNS: u32 = 15;
 
 // How long one scan takes, and how many lines it read.
+// A list's bytes and the names are two arguments: they come from two places, and a struct for them would be made for one call.
 fn timed(rt: &HostRuntime, bytes: &[u8], names: &[String]) -> io::Result<(Duration, u64)>
     ensures { IfOk result (λ t. t.1 ≡ count_of (lines_from 1 bytes.now)) }
 {
@@ -38,12 +39,15 @@ fn best(rt: &HostRuntime, bytes: &[u8], names: &[String]) -> io::Result<(Duratio
 
 fn main(rt: HostRuntime) -> io::Result<ExitCode> {
     let words: Vec<String> = env::args(&rt)?.collect(rt.alloc())?;
-    if words.len() < 3 {
-        eprintln!(rt; "usage: bench LIST NAME...")?;
-        return Ok(ExitCode::FAILURE);
-    }
-    let bytes = fs::read(&rt, words[1].as_str())?;
-    let (shortest, lines) = best(&rt, &bytes, &words[2..words.len()])?;
+    let (list, names) = match words.as_slice() {
+        [_, list, names @ ..] if !names.is_empty() => (list, names),
+        _ => {
+            eprintln!(rt; "usage: bench LIST NAME...")?;
+            return Ok(ExitCode::FAILURE);
+        }
+    };
+    let bytes = fs::read(&rt, list.as_str())?;
+    let (shortest, lines) = best(&rt, &bytes, names)?;
     let micros = shortest.as_micros();
     eprintln!(rt; "best of {RUNS}: {micros} us")?;
     println!(rt; "{lines} lines")?;

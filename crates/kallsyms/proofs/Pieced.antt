@@ -1,8 +1,9 @@
 -- The pieces of a text, and what a scan of it finds. Assumes nothing.
-use Rattle.std.proofs.Common.{◌≡◌, ℕ, zero, suc, ◌+◌, ◌-◌, ◌<◌, ◌≤◌, true, false, cond, ◌&&◌, eqb, ltb, List, [], ◌∷◌, length, get_or, take, drop, sym, refl, ap, ◌∙◌, ⊎_elim, add-one, arith}
+use Rattle.std.proofs.Common.{◌≡◌, ℕ, zero, suc, ◌+◌, ◌-◌, ◌<◌, ◌≤◌, true, false, cond, ◌&&◌, eqb, ltb, List, [], ◌∷◌, length, get_or, take, drop, None, sym, refl, ap, ◌∙◌, ⊎_elim, add-one, arith}
 use Rattle.std.proofs.lemmas.Bool.{eq-eqb, ne_eqb, eqb-true, lt-ltb, le-ltb, ltb-true, and_left, and_right, and_from, and_parts, both_ways, cases_Bool, cond-true, cond-false, cond_both}
 use Rattle.std.proofs.lemmas.List.{drop_all, take_rest}
 use Rattle.std.specs.Str.{IsAscii}
+use Rattle.memchr.specs.Find.{IsFirstByte, is_byte}
 use Rattle.kallsyms.specs.Cut.{plain, feeds, onto, pieces}
 use Rattle.kallsyms.specs.Pieces.{returns, bare}
 
@@ -74,9 +75,10 @@ piece_found bs s i h f e g =
     let one = add-one i in
     cc
 
-pub piece_last : (bs : List ℕ) (i : ℕ) → 0 < length bs → length bs ≤ i → ((k : ℕ) → k < i → get_or bs k 0 ≡ 10 → ⊥) → pieces bs ≡ bs ∷ pieces (take (length bs - i) (drop i bs))
-piece_last bs i h g f =
-    last_piece bs h (λ k l. f k (omega arith)) ∙ ap (λ l. bs ∷ pieces l) (sym (take_rest bs i ∙ drop_all i bs g))
+pub piece_last : (bs : List ℕ) → 0 < length bs → IsFirstByte (is_byte 10) bs None → pieces bs ≡ bs ∷ pieces (take (length bs - length bs) (drop (length bs) bs))
+piece_last bs h f =
+    last_piece bs h (λ k l e. f k (omega arith) l (eq-eqb (get_or bs k 0) 10 e))
+    ∙ ap (λ l. bs ∷ pieces l) (sym (take_rest bs (length bs) ∙ drop_all (length bs) bs (omega arith)))
 
 -- bytes that are all below 128, and bytes that are not
 pub ascii_plain : (bs : List ℕ) → IsAscii bs → plain bs ≡ true

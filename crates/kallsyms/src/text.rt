@@ -43,32 +43,21 @@ fn stripped(piece: &[u8]) -> &[u8]
     piece.strip_suffix(b"\r").unwrap_or(piece)
 }
 
-// The index of the first line feed, or the length.
-fn line_feed(bytes: &[u8]) -> usize
-    ensures within { result ≤ length bytes.now }
-    ensures before { (k : ℕ) → k < result → slice_index bytes.now k ≢ 10 }
-    ensures found { result < length bytes.now → slice_index bytes.now result ≡ 10 }
-{
-    memchr(b'\n', bytes).unwrap_or(bytes.len())
-}
-
 // The first piece of a text that is not empty.
 #[tactic(auto, using(crate::proofs::Pieced::piece_last))]
 fn first_piece(bytes: &[u8]) -> Piece<'_>
     requires { 0 < length bytes.now }
     ensures cut { pieces bytes.now ≡ result.bytes.now ∷ pieces result.rest.now }
 {
-    let at = line_feed(bytes);
-    if at < bytes.len() {
-        Piece {
+    match memchr(b'\n', bytes) {
+        Some(at) => Piece {
             bytes: stripped(&bytes[..at]),
             rest: &bytes[at + 1..],
-        }
-    } else {
-        Piece {
+        },
+        None => Piece {
             bytes,
-            rest: &bytes[at..],
-        }
+            rest: &bytes[bytes.len()..],
+        },
     }
 }
 

@@ -2,6 +2,7 @@
 ghost use Rattle.lookup.specs.Laws.{ListsSayOneThing, OneLineMore};
 
 /// A list says at most one thing of a name, so the contract of a lookup leaves it one answer.
+#[tactic(auto, using(crate::proofs::Alone::once))]
 pub fn lists_say_one_thing()
     ensures { ListsSayOneThing }
 {}

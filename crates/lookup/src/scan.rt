@@ -60,6 +60,7 @@ fn unlist(sightings: &mut BTreeMap<&[u8], Sighting>)
     ensures names { keys sightings.new ≡ keys sightings.old }
     ensures says { (name : List ℕ) → IfSome (sighting_of sightings.new name) (Says [] name) }
 {
+    // By `retain`: after a loop over the values a proof does not know them.
     sightings.retain(|_, sighting| {
         *sighting = Sighting::Unlisted;
         true

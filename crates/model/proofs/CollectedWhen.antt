@@ -15,7 +15,7 @@ use Rattle.model.specs.Lists.{In, with_first, each, InTurn}
 use Rattle.model.specs.Tables.{Tables, Symbols, MAX_EXTERNS, tables_fit, symbols_fit}
 use Rattle.model.specs.declared.btf.BtfType.{BtfType}
 use Rattle.model.specs.declared.btf.DataSecEntry.{DataSecEntry}
-use Rattle.model.proofs.Lookups.{ok_same, or_else_from, none_any, not_same}
+use Rattle.model.proofs.Lookups.{ok_same, option_or_from, none_any, not_same}
 use Rattle.model.proofs.Collects.{each_turn, entry_is, no_func, some_func, names_apart, Passed, collect_fits, collect_passed}
 use Rattle.model.proofs.TablesTested.{tables_are_tested}
 
@@ -64,7 +64,7 @@ module _ (t : Tables) (ss : Symbols) where
         ap (collect_section t ss) s.found
             ∙ ap (collect_entries t ss n (entries_of t d)) f.1
             ∙ ap (collect_rows t n f.0) (all_read n (entries_of t d) xs s.declared)
-            ∙ ap (λ u. granted_unless u (made f.0 xs t)) (or_else_from (duplicate [] n xs) (room_refusal f.0 xs t) (no_duplicate [] n xs (λ y x j. absurd j) s.distinct) room),
+            ∙ ap (λ u. granted_unless u (made f.0 xs t)) (option_or_from (duplicate [] n xs) (room_refusal f.0 xs t) (no_duplicate [] n xs (λ y x j. absurd j) s.distinct) room),
       )
 
   collect_granted : tables_fit t ≡ true → symbols_fit ss ≡ true → (o : Object) × (collect_section t ss (section_of t) ≡ Ok o) → (o : Object) × (collect t ss ≡ Ok o)

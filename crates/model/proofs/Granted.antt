@@ -14,7 +14,7 @@ use Rattle.model.specs.Tables.{Symbols, Catalogue}
 use Rattle.model.specs.declared.refusal.Call.{Call}
 use Rattle.model.specs.declared.refusal.Reason.{Reason}
 use Rattle.model.specs.declared.rows.Slot.{Slot}
-use Rattle.model.proofs.Lookups.{or_else_parts, or_else_from, test_parts, first_none, none_first, any_in}
+use Rattle.model.proofs.Lookups.{option_or_parts, option_or_from, test_parts, first_none, none_first, any_in}
 
 granted_none : (c : Call) (o : Option Reason) → is_ok (answered c o) ≡ true → o ≡ None
 granted_none c o e = search rules
@@ -33,11 +33,11 @@ pub record Clear (c : Option Catalogue) (ls : List (List ℕ)) (e : End) (xs : L
 
 pub clear : (c : Option Catalogue) (ls : List (List ℕ)) (e : End) (st : State) → granted (resolve c ls e) st ≡ true → Clear c ls e st.object.externs
 clear c ls e st g =
-    let q = or_else_parts _ _ (granted_parts (resolve c ls e) st g).1 in
+    let q = option_or_parts _ _ (granted_parts (resolve c ls e) st g).1 in
     record { typed = none_first (typed_refusal c) 0 st.object.externs q.0; lines = q.1 }
 
 pub clear_granted : (c : Option Catalogue) (ls : List (List ℕ)) (e : End) (st : State) → fits (resolve c ls e) st ≡ true → Clear c ls e st.object.externs → granted (resolve c ls e) st ≡ true
-clear_granted c ls e st f k = search (rules, granted_from, or_else_from, first_none)
+clear_granted c ls e st f k = search (rules, granted_from, option_or_from, first_none)
 
 -- ---- the parts of a reading with nothing to refuse
 pub lines_parts : (xs : List Extern) (ls : List Line) (e : End) → lines_refusal xs ls e ≡ None → list_any wanted xs ≡ true → (first (line_refusal xs ls) 0 ls ≡ None) × (end_refusal e ≡ None) × (first (missing_refusal ls) 0 xs ≡ None)

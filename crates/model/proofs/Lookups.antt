@@ -22,11 +22,11 @@ some_is (Some x) = inr (x, refl)
 pub none_is : {X : Type 0} (o : Option X) → is_some o ≡ false → o ≡ None
 none_is o e = search rules
 
-pub or_else_parts : {X : Type 0} (x y : Option X) → option_or x y ≡ None → (x ≡ None) × (y ≡ None)
-or_else_parts x y e = search rules
+pub option_or_parts : {X : Type 0} (x y : Option X) → option_or x y ≡ None → (x ≡ None) × (y ≡ None)
+option_or_parts x y e = search rules
 
-pub or_else_from : {X : Type 0} (x y : Option X) → x ≡ None → y ≡ None → option_or x y ≡ None
-or_else_from x y p q = search rules
+pub option_or_from : {X : Type 0} (x y : Option X) → x ≡ None → y ≡ None → option_or x y ≡ None
+option_or_from x y p q = search rules
 
 -- a test before a refusal
 pub test_parts : {X : Type 0} (b : Bool) (x : Option X) (y : X) → cond b x (Some y) ≡ None → (b ≡ true) × (x ≡ None)
@@ -43,12 +43,12 @@ numbered_none n o e = search rules
 module _ {X R : Type 0} (why : X → Option (ℕ → R)) where
   pub first_none : (n : ℕ) (xs : List X) → ((x : X) → In x xs → why x ≡ None) → first why n xs ≡ None
   first_none n [] h = refl
-  first_none n (x ∷ xs) h = or_else_from _ _ (ap (numbered n) (h x (inl refl))) (first_none (suc n) xs (λ y i. h y (inr i)))
+  first_none n (x ∷ xs) h = option_or_from _ _ (ap (numbered n) (h x (inl refl))) (first_none (suc n) xs (λ y i. h y (inr i)))
 
   pub none_first : (n : ℕ) (xs : List X) → first why n xs ≡ None → (x : X) → In x xs → why x ≡ None
   none_first n [] e x i = absurd i
-  none_first n (y ∷ ys) e x (inl p) = subst (λ z. why z ≡ None) p (numbered_none n (why y) (or_else_parts _ _ e).0)
-  none_first n (y ∷ ys) e x (inr i) = none_first (suc n) ys (or_else_parts _ _ e).1 x i
+  none_first n (y ∷ ys) e x (inl p) = subst (λ z. why z ≡ None) p (numbered_none n (why y) (option_or_parts _ _ e).0)
+  none_first n (y ∷ ys) e x (inr i) = none_first (suc n) ys (option_or_parts _ _ e).1 x i
 
 -- ---- tests of each and of some
 module _ {X : Type 0} (p : X → Bool) where

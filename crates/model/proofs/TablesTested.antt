@@ -10,7 +10,7 @@ use Rattle.model.specs.Lists.{ascends, earlier}
 use Rattle.model.specs.Relocate.{Program, function_slots, functions_fit, relocations_fit, code_fits, program_fits}
 use Rattle.model.specs.Slots.{whole_slots}
 use Rattle.model.specs.Spans.{inside, end_of, follow}
-use Rattle.model.specs.TableLaws.{SpansFollow, WellFormedTables, WellFormedObject, Before, WellFormedSymbols, WellFormedCatalogue, WellFormedProgram, TablesAreTested}
+use Rattle.model.specs.TableLaws.{slots_of, WellFormedTables, WellFormedObject, Before, WellFormedSymbols, WellFormedCatalogue, WellFormedProgram, TablesAreTested}
 use Rattle.model.specs.Tables.{Tables, Symbols, Catalogue, MAX_ROWS, MAX_FUNCTIONS, MAX_NAMES, MAX_SECTION_OFFSET, void_first, parts_fit, inside_if_any, symbols_fit, catalogue_fits}
 use Rattle.model.specs.declared.btf.BtfType.{BtfType}
 use Rattle.model.specs.declared.rows.CatalogueRow.{CatalogueRow}
@@ -18,7 +18,7 @@ use Rattle.model.specs.declared.rows.Function.{Function}
 use Rattle.model.specs.declared.rows.Relocation.{Relocation}
 use Rattle.model.specs.declared.rows.Span.{Span}
 use Rattle.model.specs.declared.rows.Symbol.{Symbol}
-use Rattle.model.proofs.Followed.{follow_is}
+use Rattle.model.proofs.Followed.{rows_follow, slots_follow}
 use Rattle.model.proofs.Lookups.{all_in, in_all}
 use Rattle.model.proofs.Tested.{collected_test}
 use Rattle.model.proofs.Grown.{Fits, fits_is, is_fit}
@@ -78,10 +78,10 @@ is_part : (r : BtfType) → (of_kind 15 r ≡ false → of_kind 13 r ≡ false �
 is_part r h = search rules
 
 fits_formed : (t : Tables) → Fits t → WellFormedTables t
-fits_formed t f = search (rules, void_is, follow_is, part_is, all_in)
+fits_formed t f = search (rules, void_is, rows_follow, part_is, all_in)
 
 formed_fits : (t : Tables) → WellFormedTables t → Fits t
-formed_fits t w = search (rules, is_void, in_all, is_part, follow_is)
+formed_fits t w = search (rules, is_void, in_all, is_part, rows_follow)
 
 -- ---- an object
 collected_or_none : (o : Object) (xs : List Extern) → o.externs ≡ xs → object_fits o ≡ true → (o.externs ≡ []) ⊎ Collected o
@@ -154,6 +154,7 @@ module _ (p : Program) (code : List ℕ) where
       let g = and_parts (list_all offset_fits p.functions) _ f.1 in
       let k = and_parts (ascends (λ x y. earlier (place x) (place y)) p.functions) (follow 0 (function_slots p.functions) (length code / 8)) g.1 in
       let m = eqb-true (length code % 8) 0 b.0 in
+      let spans = (slots_follow (length code / 8) p.functions).0 k.1 in
       record {
         slots = length code / 8;
         whole = omega arith;
@@ -164,7 +165,8 @@ module _ (p : Program) (code : List ℕ) where
         few_functions = leb-true _ _ f.0;
         offsets = λ x i. leb-true _ _ (all_in offset_fits p.functions g.0 x i);
         functions = (keys_ascend place p.functions).0 k.0;
-        spans = (follow_is (length code / 8) (function_slots p.functions)).0 k.1;
+        starts = spans.0;
+        ends = spans.1;
       }
 
   formed_program : WellFormedProgram p code → program_fits p code ≡ true
@@ -180,7 +182,7 @@ module _ (p : Program) (code : List ℕ) where
       (and_from (leb (length p.functions) MAX_FUNCTIONS) _ (le-leb _ _ w.few_functions)
       (and_from (list_all offset_fits p.functions) _ (in_all offset_fits p.functions (λ f i. le-leb _ _ (w.offsets f i)))
       (and_from (ascends (λ x y. earlier (place x) (place y)) p.functions) _ ((keys_ascend place p.functions).1 w.functions)
-      ((follow_is (length code / 8) (function_slots p.functions)).1 (subst (λ n. SpansFollow (function_slots p.functions) n) same w.spans)))))))
+      ((slots_follow (length code / 8) p.functions).1 (w.starts, subst (λ n. slots_of p.functions ≤ n) same w.ends)))))))
 
 -- ---- the whole
 pub tables_are_tested : TablesAreTested

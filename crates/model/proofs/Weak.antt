@@ -24,7 +24,7 @@ use Rattle.model.specs.declared.rows.Slot.{Slot}
 use Rattle.model.specs.declared.rows.Span.{Span}
 use Rattle.model.specs.declared.rows.Symbol.{Symbol}
 use Rattle.model.proofs.Granted.{granted_parts, granted_from, Clear, clear, lines_parts, lines_from, none_missing, go_on}
-use Rattle.model.proofs.Lookups.{or_else_from, first_none, none_first}
+use Rattle.model.proofs.Lookups.{option_or_from, first_none, none_first}
 use Rattle.model.proofs.WeakCollect.{rows_masked, changed_is, symbols_fit_weak, masked_length, in_masked, map_masked, any_masked, all_masked, Found, lookup_masked, weaker, weakened, weakened_object, Alike, collect_alike}
 
 abbrev weakened_state : (ℕ → Bool) → State → State
@@ -136,7 +136,7 @@ follows (resolve c ls e) m st g =
     let xs = st.object.externs in
     let w = clear_weak m c ls e xs k in
     record {
-      clears = or_else_from _ _ (first_none (typed_refusal c) 0 (weakened m xs) w.typed) w.lines;
+      clears = option_or_from _ _ (first_none (typed_refusal c) 0 (weakened m xs) w.typed) w.lines;
       object = λ i. record {
         tables = st.object.tables;
         externs = map_weak (given c (map said ls)) m xs (λ b x j. given_weak c (map said ls) b x (k.typed x j) (none_missing xs (map said ls) e k.lines x j)) i;

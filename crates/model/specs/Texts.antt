@@ -73,6 +73,10 @@ values_text (why.ExternWithoutId row name) = codes ", relocation " ++ decimal ro
 values_text (why.UnresolvableSymbol row name) = codes ", relocation " ++ decimal row
 values_text why.OutOfMemory = []
 
+-- the name and the values after it
+abbrev pub reason_text : Reason → List ℕ
+reason_text r = reason_name r ++ values_text r
+
 -- the number, and the name and the values after it
 abbrev pub numbered_text : Option ℕ → List ℕ → List ℕ
 numbered_text None rest = rest
@@ -80,4 +84,4 @@ numbered_text (Some n) rest = codes "refused " ++ (decimal n ++ (codes " " ++ re
 
 -- the call, the number and the name of the reason, and its values
 abbrev pub refusal_text : Refusal → List ℕ
-refusal_text r = call_name r.call ++ (codes ": " ++ numbered_text (told r.reason).number (reason_name r.reason ++ values_text r.reason))
+refusal_text r = call_name r.call ++ (codes ": " ++ numbered_text (told r.reason).number (reason_text r.reason))

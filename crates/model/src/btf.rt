@@ -56,6 +56,7 @@ pub struct DataSecEntry {
 }
 
 /// A parameter of a FuncProto.
+// Numbers as the kernel's format has them, in which 0 stands for none.
 #[derive(Clone, Copy, Debug, PartialEq, Eq)]
 pub struct BtfParam {
     /// The offset of the name in the type strings, 0 for none.

@@ -1,12 +1,12 @@
 // Refusals for people.
 ghost use Rattle.std.specs.Prelude.{◌≡◌, Some};
-ghost use Rattle.model.specs.Texts.{call_name, reason_name, named_text, values_text, refusal_text};
+ghost use Rattle.model.specs.Texts.{call_name, reason_name, named_text, reason_text, refusal_text};
 
 use crate::refusal::{Call, Named, Reason, Refusal};
 use std::fmt;
 use texts::hex::Hex;
 
-// Names are not by Debug: a derive prints `Collect`, and promises nothing of what it prints.
+// Not by Debug: a derive prints `Collect`, and promises nothing of what it prints.
 impl Call {
     /// The name of the call.
     pub fn name(self) -> &'static str
@@ -21,6 +21,7 @@ impl Call {
     }
 }
 
+// Not by Debug: a derive prints the fields too, and promises nothing of what it prints.
 impl Reason {
     /// The name of the reason.
     pub fn name(self) -> &'static str
@@ -64,30 +65,29 @@ impl fmt::Display for Named {
     }
 }
 
-/// A reason that is printed as its values.
-// A type of its own, so that the text of a refusal is one format that names the values.
-#[derive(Clone, Copy)]
-pub struct Values(pub Reason);
-
-impl fmt::Display for Values {
-    ghost output = { λ v. Some (values_text v.0) };
+/// The name of the reason, and its values.
+impl fmt::Display for Reason {
+    ghost output = { λ r. Some (reason_text r) };
 
     fn fmt<W: fmt::Write>(&self, f: &mut fmt::Formatter<W>) -> fmt::Result {
-        match self.0 {
-            Reason::InvalidTable | Reason::NoRoom | Reason::OutOfMemory => write!(f, ""),
-            Reason::InvalidStringOffset { of } => write!(f, ", {of}"),
+        let name = self.name();
+        match *self {
+            Reason::InvalidTable | Reason::NoRoom | Reason::OutOfMemory => write!(f, "{name}"),
+            Reason::InvalidStringOffset { of } => write!(f, "{name}, {of}"),
             Reason::UnknownBtfType { row }
             | Reason::InvalidDatasec { row }
             | Reason::InvalidSymbolName { row }
             | Reason::MaximumTypeDepthReached { row }
-            | Reason::DuplicateName { row } => write!(f, ", entry {row}"),
+            | Reason::DuplicateName { row } => write!(f, "{name}, entry {row}"),
             Reason::TypedKsymRequiresKernelBtf { row }
             | Reason::FunctionNotFound { row, .. }
             | Reason::IncompatibleFunctionSignature { row, .. }
             | Reason::VariableNotFound { row, .. }
-            | Reason::IncompatibleVariableType { row, .. } => write!(f, ", extern {row}"),
-            Reason::KallsymsAccessError { fault } => write!(f, ", {fault}"),
-            Reason::KallsymsParseError { row, line } => write!(f, ", extern {row}, line {line}"),
+            | Reason::IncompatibleVariableType { row, .. } => write!(f, "{name}, extern {row}"),
+            Reason::KallsymsAccessError { fault } => write!(f, "{name}, {fault}"),
+            Reason::KallsymsParseError { row, line } => {
+                write!(f, "{name}, extern {row}, line {line}")
+            }
             Reason::AmbiguousResolution {
                 row,
                 line,
@@ -97,13 +97,16 @@ impl fmt::Display for Values {
             } => {
                 let first = Hex(first_addr);
                 let second = Hex(second_addr);
-                write!(f, ", extern {row}, {first} and on line {line} {second}")
+                write!(
+                    f,
+                    "{name}, extern {row}, {first} and on line {line} {second}"
+                )
             }
             Reason::InvalidRelocationOffset { row }
             | Reason::UnknownSymbol { row }
             | Reason::ExternNotFound { row, .. }
             | Reason::ExternWithoutId { row, .. }
-            | Reason::UnresolvableSymbol { row, .. } => write!(f, ", relocation {row}"),
+            | Reason::UnresolvableSymbol { row, .. } => write!(f, "{name}, relocation {row}"),
         }
     }
 }
@@ -114,11 +117,10 @@ impl fmt::Display for Refusal {
 
     fn fmt<W: fmt::Write>(&self, f: &mut fmt::Formatter<W>) -> fmt::Result {
         let call = self.call.name();
-        let name = self.reason.name();
-        let values = Values(self.reason);
-        match self.reason.number() {
-            Some(number) => write!(f, "{call}: refused {number} {name}{values}"),
-            None => write!(f, "{call}: {name}{values}"),
+        let reason = self.reason;
+        match reason.number() {
+            Some(number) => write!(f, "{call}: refused {number} {reason}"),
+            None => write!(f, "{call}: {reason}"),
         }
     }
 }

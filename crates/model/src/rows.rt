@@ -71,7 +71,7 @@ pub struct ExternDesc {
     /// Whether it may be missing.
     pub is_weak: bool,
     /// Whether it has an id or a nonzero address.
-    // A flag, not an Option: an address of zero is an address too, and resolves nothing; a load is given the first of an id and an address.
+    // A rule of the project: the row is aya-obj's, and a load is given the first of the id and the address, of which an address of zero resolves nothing.
     pub is_resolved: bool,
     /// The id of its type in the kernel's BTF.
     pub kernel_btf_id: Option<u32>,

@@ -19,6 +19,7 @@ impl fmt::Display for Hex {
 }
 
 /// The digits that are printed of an address read back as that address.
+#[tactic(auto, using(crate::proofs::ReadBack::hex_reads))]
 pub fn hex_reads_back()
     ensures { HexReadsBack }
 {}

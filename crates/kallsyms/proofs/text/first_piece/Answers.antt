@@ -1,7 +1,9 @@
+use Rattle.std.proofs.Common.{arith}
+use Rattle.std.proofs.lemmas.Bool.{eq-eqb, eqb-true}
 use Rattle.kallsyms.proofs.Pieced.{piece_found}
 use Rattle.kallsyms.proofs.text.first_piece.Goals as goal
 
-pub returns-then-at-bytes : goal.returns-then-at-bytes
-returns-then-at-bytes c =
-    let told = c.line_feed-at.ensures in
-    record { cut = piece_found _ _ _ c.if-at-bytes.true told.before (told.found c.if-at-bytes.true) c.stripped.ensures }
+pub returns-in-Some : goal.returns-in-Some
+returns-in-Some c =
+    let first = c.in-Some.ensures in
+    record { cut = piece_found _ _ _ first.0.high (λ k lt e. first.0.before k (omega arith) lt (eq-eqb _ 10 e)) (eqb-true _ 10 first.1) c.stripped.ensures }
