@@ -39,6 +39,7 @@ fn best(rt: &HostRuntime, bytes: &[u8], names: &[String]) -> io::Result<(Duratio
 
 fn main(rt: HostRuntime) -> io::Result<ExitCode> {
     let words: Vec<String> = env::args(&rt)?.collect(rt.alloc())?;
+    // The words are taken apart here as in the tool: a crate for the command line of two programs would be no plainer.
     let (list, names) = match words.as_slice() {
         [_, list, names @ ..] if !names.is_empty() => (list, names),
         _ => {
