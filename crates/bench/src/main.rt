@@ -24,7 +24,7 @@ fn timed(rt: &HostRuntime, bytes: &[u8], names: &[String]) -> io::Result<(Durati
     Ok((start.elapsed(rt)?, reading.lines))
 }
 
-// The shortest of several scans, and how many lines each read.
+// The shortest of several scans, and how many lines each read; two arguments, as in `timed`.
 fn best(rt: &HostRuntime, bytes: &[u8], names: &[String]) -> io::Result<(Duration, u64)>
     ensures { IfOk result (λ t. t.1 ≡ count_of (lines_from 1 bytes.now)) }
 {

@@ -70,6 +70,7 @@ fn answer_text(heap: Global, tolds: &[Told], reading: Reading) -> Result<String,
 }
 
 /// What the tool writes for a list of these bytes and these names.
+// A list's bytes and the names are two arguments: they come from two places.
 pub fn answer(heap: Global, bytes: &[u8], names: &[String]) -> Result<String, AllocError>
     ensures { IfOk result (λ s. Answers bytes.now names.now (string_bytes s)) }
 {

@@ -16,6 +16,7 @@ impl<'a> Request<'a> {
     pub fn of(words: &'a [String]) -> Option<Request<'a>>
         ensures { MatchOption result (length words.now < 3) (λ q. (3 ≤ length words.now) × (option_map string_bytes (slice_get words.now 1) ≡ Some q.list.now) × (q.names.now ≡ drop 2 words.now)) }
     {
+        // `bench` takes its words apart likewise: a crate for two programs would be no plainer.
         match words {
             [_, list, names @ ..] if !names.is_empty() => Some(Request {
                 list: list.as_str(),

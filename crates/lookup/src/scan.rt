@@ -47,7 +47,7 @@ fn note_line(sightings: &mut BTreeMap<&[u8], Sighting>, line_number: u64, line: 
 }
 
 /// What a reading of a list took.
-#[derive(Clone, Copy, Debug, PartialEq)]
+#[derive(Clone, Copy, Debug, PartialEq, Eq)]
 pub struct Reading {
     /// How many lines were read; the count stays at the greatest.
     pub lines: u64,

@@ -4,7 +4,7 @@ ghost use Rattle.lookup.specs.After.{after as after_of, is_found};
 
 /// What the lines of a list say of one name; lines are counted from 1.
 // Line and address are fields by name: with a struct for the two, each pattern would have one level more.
-#[derive(Clone, Copy, Debug, PartialEq)]
+#[derive(Clone, Copy, Debug, PartialEq, Eq)]
 pub enum Sighting {
     /// No line lists the name.
     Unlisted,

@@ -28,6 +28,7 @@ pub enum BtfKind {
 }
 
 /// A type; row 0 has kind 0 and stands for void.
+// Numbers as the kernel's format has them: bits packed in one, a size or an id in another.
 #[derive(Clone, Copy, Debug, PartialEq, Eq)]
 pub struct BtfType {
     /// The kind.

@@ -141,6 +141,7 @@ pub struct Refusal {
 #[derive(Clone, Copy, Debug, PartialEq, Eq)]
 pub struct Told {
     /// The number, from 1 to 21; want of memory has none.
+    // A rule of the project fixes the numbers.
     pub number: Option<u8>,
     /// The row.
     pub row: Option<usize>,

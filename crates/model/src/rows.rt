@@ -104,6 +104,7 @@ pub struct Relocation {
 }
 
 /// An instruction slot of eight bytes.
+// Numbers as the instruction set has them: two registers in one byte.
 #[derive(Clone, Copy, Debug, PartialEq, Eq)]
 pub struct Slot {
     /// What to do.

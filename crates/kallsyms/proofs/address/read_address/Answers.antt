@@ -1,3 +1,4 @@
+-- Tried without: the check leaves these goals open.
 use Rattle.std.proofs.Common.{sym, ◌∙◌}
 use Rattle.kallsyms.proofs.Addressed.{no_room}
 use Rattle.kallsyms.proofs.address.read_address.Goals as goal

@@ -1,3 +1,4 @@
+-- Tried without: the check leaves these goals open.
 use Rattle.std.proofs.Common.{arith}
 use Rattle.std.proofs.lemmas.List.FromFn.{get_or-map-range_with_len}
 use Rattle.kallsyms.specs.Address.{digit, entry}

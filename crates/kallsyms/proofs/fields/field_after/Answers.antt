@@ -1,3 +1,4 @@
+-- Tried without: the check leaves these goals open.
 use Rattle.std.proofs.Common.{◌≡◌, ◌-◌, length, take, drop, true, false, sym, ap, ◌∙◌, rules, tests}
 use Rattle.std.proofs.lemmas.List.{take_rest}
 use Rattle.std.proofs.lemmas.Option.{MatchOption-at_none}

@@ -1,3 +1,4 @@
+-- Tried without: the check leaves these goals open.
 use Rattle.kallsyms.proofs.FieldLaws.{fields_parts}
 use Rattle.kallsyms.proofs.laws.fields_are_parts.Goals as goal
 

@@ -1,3 +1,4 @@
+-- Tried without: the check leaves these goals open.
 use Rattle.std.proofs.Common.{◌≡◌, string_bytes}
 use Rattle.std.proofs.lemmas.Result.{IfOk-weaker}
 use Rattle.ksyms.specs.Answers.{answer_text, Answers}

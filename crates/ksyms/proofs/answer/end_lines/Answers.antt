@@ -1,3 +1,4 @@
+-- Tried without: the check leaves these goals open.
 use Rattle.std.proofs.Common.{◌≡◌, ◌++◌, ◌∷◌, [], Err, IfOk, codes, string_bytes, sym, ap, subst, append_assoc}
 use Rattle.kallsyms.specs.Faults.{fault_text}
 use Rattle.kallsyms.specs.declared.ends.Fault.{Fault}

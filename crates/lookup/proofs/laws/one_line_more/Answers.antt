@@ -1,3 +1,4 @@
+-- Tried without: the check leaves these goals open.
 use Rattle.std.proofs.Common.{refl}
 use Rattle.kallsyms.specs.Address.{address}
 use Rattle.kallsyms.specs.Fields.{field}

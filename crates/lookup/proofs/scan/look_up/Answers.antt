@@ -1,3 +1,4 @@
+-- Tried without: the check leaves these goals open.
 use Rattle.std.proofs.Common.{[], ◌∷◌, ◌++◌, ◌∙◌, append_assoc, length-append, arith}
 use Rattle.kallsyms.proofs.Stepped.{at_line, line_in}
 use Rattle.lookup.proofs.Saying.{notes_say}

@@ -1,3 +1,4 @@
+-- Tried without: the check leaves these goals open.
 use Rattle.std.proofs.Common.{rules}
 use Rattle.std.proofs.lemmas.Map.Made.{map_same_pairs}
 use Rattle.lookup.specs.declared.sighting.Sighting.TheVariants.{Unlisted}

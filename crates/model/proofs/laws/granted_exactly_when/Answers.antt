@@ -1,3 +1,4 @@
+-- Tried without: the check leaves these goals open.
 use Rattle.model.proofs.Whole.{granted_exactly_when}
 use Rattle.model.proofs.laws.granted_exactly_when.Goals as goal
 

@@ -1,3 +1,4 @@
+-- Tried without: the check leaves these goals open.
 use Rattle.ksyms.proofs.summary.ToldDisplay.fmt.Goals as goal
 
 pub returns-in-TwoAddresses-clause-writes : goal.returns-in-TwoAddresses-clause-writes
