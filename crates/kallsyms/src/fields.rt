@@ -1,5 +1,5 @@
 // A line of a kernel list as fields: an address, a letter, a name, and what may follow.
-ghost use Rattle.std.specs.Prelude.{◌≡◌, ℕ, ◌+◌, ◌<◌, ◌≤◌, not, [], length, drop, MatchOption, slice_index};
+ghost use Rattle.std.specs.Prelude.{◌≡◌, ◌<◌, ◌≤◌, [], length, drop, MatchOption};
 ghost use Rattle.kallsyms.specs.Fields.{separates, Begins, field, fields as fields_from};
 ghost use Rattle.kallsyms.specs.Shown.{Is, Shows};
 

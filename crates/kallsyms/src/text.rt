@@ -1,6 +1,6 @@
 // The lines of a text in memory.
-ghost use Rattle.std.specs.Prelude.{◌≡◌, ℕ, ◌<◌, ◌≤◌, ◌∷◌, ◌++◌, length, take, drop, ◌≢◌, slice_index};
-ghost use Rattle.kallsyms.specs.Cut.{lines_from, end_from, pieces, plain, verdict};
+ghost use Rattle.std.specs.Prelude.{◌≡◌, ◌<◌, ◌≤◌, ◌∷◌, ◌++◌, length, drop};
+ghost use Rattle.kallsyms.specs.Cut.{lines_from, end_from, pieces, verdict};
 ghost use Rattle.kallsyms.specs.Pieces.{bare};
 ghost use Rattle.kallsyms.specs.Goodness.{good_kept};
 
@@ -80,7 +80,7 @@ fn put(buffer: &mut [u8; LINE_LEN], line: &[u8])
     requires { length line.now ≤ 1024 }
     ensures { buffer.new ≡ line.now ++ drop (length line.now) buffer.old }
 {
-    buffer[0..line.len()].copy_from_slice(line);
+    buffer[..line.len()].copy_from_slice(line);
 }
 
 impl<'a> LineSource for Text<'a> {

@@ -1,5 +1,5 @@
 -- Spans that follow each other.
-use Rattle.std.proofs.Common.{rules, ◌≡◌, ℕ, ◌+◌, ◌≤◌, true, false, eqb, ◌↔◌, List, [], ◌∷◌, ◌++◌, refl, ap, subst, inl, inr, ⊎_elim, arith}
+use Rattle.std.proofs.Common.{rules, ◌≡◌, ℕ, ◌+◌, ◌≤◌, Bool, true, false, cond, eqb, ◌↔◌, List, [], ◌∷◌, ◌++◌, sym, refl, ap, ◌∙◌, subst, inl, inr, ⊎_elim, arith}
 use Rattle.std.proofs.lemmas.Bool.{and_from, leb-true, le-leb, eq-eqb, cond-true, cond-false, cond_both, cases_Bool}
 use Rattle.model.specs.Kinds.{of_kind}
 use Rattle.model.specs.Lists.{In}
@@ -31,73 +31,69 @@ module _ (n : ℕ) where
       subst (λ (z : Span). end_of z ≤ n) e here
   follow_in at (r ∷ rs) h s (inr i) = follow_in (at + r.len) rs (follow_parts at r rs h).1 s i
 
--- the rows of a kind
-module _ (n k : ℕ) where
-  -- a row of the kind comes first, or one of another
-  first_of : (at : ℕ) (t : BtfType) (ts : List BtfType) → of_kind k t ≡ true → follow at (parts_of_kind k (t ∷ ts)) n ≡ true → (t.parts.start ≡ at) × (follow (at + t.parts.len) (parts_of_kind k ts) n ≡ true)
-  first_of at t ts o h = follow_parts n at t.parts (parts_of_kind k ts) (subst (λ ss. follow at ss n ≡ true) (cond-true (of_kind k t) _ _ o) h)
+-- rows of which some have a span: the spans of these in order, and how many parts they have together
+module _ {X : Type 0} (takes : X → Bool) (span : X → Span) (spans : List X → List Span) (sum : List X → ℕ)
+    (none : spans [] ≡ []) (nothing : sum [] ≡ 0)
+    (more : (x : X) (xs : List X) → spans (x ∷ xs) ≡ cond (takes x) (span x ∷ spans xs) (spans xs))
+    (adds : (x : X) (xs : List X) → sum (x ∷ xs) ≡ cond (takes x) ((span x).len + sum xs) (sum xs)) (n : ℕ) where
+  -- a row that has one comes first, or another
+  first_of : (at : ℕ) (x : X) (xs : List X) → takes x ≡ true → follow at (spans (x ∷ xs)) n ≡ true → ((span x).start ≡ at) × (follow (at + (span x).len) (spans xs) n ≡ true)
+  first_of at x xs o h = follow_parts n at (span x) (spans xs) (subst (λ ss. follow at ss n ≡ true) (more x xs ∙ cond-true (takes x) _ _ o) h)
 
-  other_of : (at : ℕ) (t : BtfType) (ts : List BtfType) → of_kind k t ≡ false → follow at (parts_of_kind k (t ∷ ts)) n ≡ true → follow at (parts_of_kind k ts) n ≡ true
-  other_of at t ts o h = subst (λ ss. follow at ss n ≡ true) (cond-false (of_kind k t) _ _ o) h
+  other_of : (at : ℕ) (x : X) (xs : List X) → takes x ≡ false → follow at (spans (x ∷ xs)) n ≡ true → follow at (spans xs) n ≡ true
+  other_of at x xs o h = subst (λ ss. follow at ss n ≡ true) (more x xs ∙ cond-false (takes x) _ _ o) h
 
-  more : (t : BtfType) (ts : List BtfType) → of_kind k t ≡ true → parts_of k (t ∷ ts) ≡ t.parts.len + parts_of k ts
-  more t ts o = cond-true (of_kind k t) _ _ o
+  longer : (x : X) (xs : List X) → takes x ≡ true → sum (x ∷ xs) ≡ (span x).len + sum xs
+  longer x xs o = adds x xs ∙ cond-true (takes x) _ _ o
 
-  same : (t : BtfType) (ts : List BtfType) → of_kind k t ≡ false → parts_of k (t ∷ ts) ≡ parts_of k ts
-  same t ts o = cond-false (of_kind k t) _ _ o
+  as_long : (x : X) (xs : List X) → takes x ≡ false → sum (x ∷ xs) ≡ sum xs
+  as_long x xs o = adds x xs ∙ cond-false (takes x) _ _ o
 
-  rows_end : (at : ℕ) (ts : List BtfType) → follow at (parts_of_kind k ts) n ≡ true → at + parts_of k ts ≤ n
-  rows_end at [] h = let l = leb-true at n h in omega arith
-  rows_end at (t ∷ ts) h =
+  ends : (at : ℕ) (xs : List X) → follow at (spans xs) n ≡ true → at + sum xs ≤ n
+  ends at [] h = let l = follow_within n at (spans []) h in omega (arith, nothing)
+  ends at (x ∷ xs) h =
       ⊎_elim
-      (λ o. let r = rows_end (at + t.parts.len) ts (first_of at t ts o h).1 in let m = more t ts o in omega arith)
-      (λ o. let r = rows_end at ts (other_of at t ts o h) in let m = same t ts o in omega arith)
-      (cases_Bool (of_kind k t))
+      (λ o. let r = ends (at + (span x).len) xs (first_of at x xs o h).1 in let m = longer x xs o in omega arith)
+      (λ o. let r = ends at xs (other_of at x xs o h) in let m = as_long x xs o in omega arith)
+      (cases_Bool (takes x))
 
-  row_split : (at : ℕ) (front : List BtfType) (t : BtfType) (back : List BtfType) → follow at (parts_of_kind k (front ++ t ∷ back)) n ≡ true → of_kind k t ≡ true → t.parts.start ≡ at + parts_of k front
-  row_split at [] t back h o = let e = (first_of at t back o h).0 in omega arith
-  row_split at (f ∷ fs) t back h o =
+  starts : (at : ℕ) (front : List X) (x : X) (back : List X) → follow at (spans (front ++ x ∷ back)) n ≡ true → takes x ≡ true → (span x).start ≡ at + sum front
+  starts at [] x back h o = let e = (first_of at x back o h).0 in omega (arith, nothing)
+  starts at (f ∷ fs) x back h o =
       ⊎_elim
-      (λ p. let r = row_split (at + f.parts.len) fs t back (first_of at f (fs ++ t ∷ back) p h).1 o in let m = more f fs p in omega arith)
-      (λ p. let r = row_split at fs t back (other_of at f (fs ++ t ∷ back) p h) o in let m = same f fs p in omega arith)
-      (cases_Bool (of_kind k f))
+      (λ p. let r = starts (at + (span f).len) fs x back (first_of at f (fs ++ x ∷ back) p h).1 o in let m = longer f fs p in omega arith)
+      (λ p. let r = starts at fs x back (other_of at f (fs ++ x ∷ back) p h) o in let m = as_long f fs p in omega arith)
+      (cases_Bool (takes f))
 
-  is_rows : (at : ℕ) (ts : List BtfType) → ((front : List BtfType) (t : BtfType) (back : List BtfType) → ts ≡ front ++ t ∷ back → of_kind k t ≡ true → t.parts.start ≡ at + parts_of k front)
-      → at + parts_of k ts ≤ n → follow at (parts_of_kind k ts) n ≡ true
-  is_rows at [] h l = le-leb at n (omega arith)
-  is_rows at (t ∷ ts) h l =
-      cond_both (of_kind k t) _ _ (λ ss. follow at ss n ≡ true)
+  followed : (at : ℕ) (xs : List X) → ((front : List X) (x : X) (back : List X) → xs ≡ front ++ x ∷ back → takes x ≡ true → (span x).start ≡ at + sum front)
+      → at + sum xs ≤ n → follow at (spans xs) n ≡ true
+  followed at [] h l = subst (λ ss. follow at ss n ≡ true) (sym none) (le-leb at n (omega (arith, nothing)))
+  followed at (x ∷ xs) h l =
+      subst (λ ss. follow at ss n ≡ true) (sym (more x xs))
+      (cond_both (takes x) _ _ (λ ss. follow at ss n ≡ true)
       (λ o.
-      let first = h [] t ts refl o in
-      let m = more t ts o in
-      and_from (eqb t.parts.start at) _ (eq-eqb t.parts.start at (omega arith))
-      (is_rows (at + t.parts.len) ts (λ front r back e q. let s = h (t ∷ front) r back (ap (λ rs. t ∷ rs) e) q in let w = more t front o in omega arith) (omega arith)))
+      let first = h [] x xs refl o in
+      let m = longer x xs o in
+      and_from (eqb (span x).start at) _ (eq-eqb (span x).start at (omega (arith, nothing)))
+      (followed (at + (span x).len) xs (λ front r back e q. let s = h (x ∷ front) r back (ap (λ rs. x ∷ rs) e) q in let w = longer x front o in omega arith) (omega arith)))
       (λ o.
-      let m = same t ts o in
-      is_rows at ts (λ front r back e q. let s = h (t ∷ front) r back (ap (λ rs. t ∷ rs) e) q in let w = same t front o in omega arith) (omega arith))
+      let m = as_long x xs o in
+      followed at xs (λ front r back e q. let s = h (x ∷ front) r back (ap (λ rs. x ∷ rs) e) q in let w = as_long x front o in omega arith) (omega arith)))
 
   -- the test says that each starts where those before it end, and that the last one ends inside
-  pub rows_follow : (ts : List BtfType) → (follow 0 (parts_of_kind k ts) n ≡ true) ↔ SpansFollow k ts n
-  rows_follow ts = search (rules, rows_end, row_split, is_rows)
+  pub follow_is : (xs : List X) → (follow 0 (spans xs) n ≡ true)
+      ↔ (((front : List X) (x : X) (back : List X) → xs ≡ front ++ x ∷ back → takes x ≡ true → (span x).start ≡ sum front) × (sum xs ≤ n))
+  follow_is xs = search (rules, ends, starts, followed)
+
+-- the rows of a kind
+pub rows_follow : (n k : ℕ) (ts : List BtfType) → (follow 0 (parts_of_kind k ts) n ≡ true) ↔ SpansFollow k ts n
+rows_follow n k ts =
+    let is = follow_is (of_kind k) (λ t. t.parts) (parts_of_kind k) (parts_of k) refl refl (λ t us. refl) (λ t us. refl) n ts in
+    (λ h. record { starts = (is.0 h).0; ends = (is.0 h).1 }, λ w. is.1 (w.starts, w.ends))
 
 -- functions
-module _ (n : ℕ) where
-  slots_end : (at : ℕ) (fs : List Function) → follow at (function_slots fs) n ≡ true → at + slots_of fs ≤ n
-  slots_end at [] h = let l = leb-true at n h in omega arith
-  slots_end at (f ∷ fs) h = let p = follow_parts n at f.slots (function_slots fs) h in let r = slots_end (at + f.slots.len) fs p.1 in omega arith
-
-  pub slots_split : (at : ℕ) (front : List Function) (f : Function) (back : List Function) → follow at (function_slots (front ++ f ∷ back)) n ≡ true → f.slots.start ≡ at + slots_of front
-  slots_split at [] f back h = let e = (follow_parts n at f.slots (function_slots back) h).0 in omega arith
-  slots_split at (g ∷ gs) f back h = let r = slots_split (at + g.slots.len) gs f back (follow_parts n at g.slots (function_slots (gs ++ f ∷ back)) h).1 in omega arith
-
-  is_slots : (at : ℕ) (fs : List Function) → ((front : List Function) (f : Function) (back : List Function) → fs ≡ front ++ f ∷ back → f.slots.start ≡ at + slots_of front)
-      → at + slots_of fs ≤ n → follow at (function_slots fs) n ≡ true
-  is_slots at [] h l = le-leb at n (omega arith)
-  is_slots at (f ∷ fs) h l =
-      let first = h [] f fs refl in
-      and_from (eqb f.slots.start at) _ (eq-eqb f.slots.start at (omega arith))
-      (is_slots (at + f.slots.len) fs (λ front g back e. let m = h (f ∷ front) g back (ap (λ gs. f ∷ gs) e) in omega arith) (omega arith))
-
-  pub slots_follow : (fs : List Function) → (follow 0 (function_slots fs) n ≡ true)
-      ↔ (((front : List Function) (f : Function) (back : List Function) → fs ≡ front ++ f ∷ back → f.slots.start ≡ slots_of front) × (slots_of fs ≤ n))
-  slots_follow fs = search (rules, slots_end, slots_split, is_slots)
+pub slots_follow : (n : ℕ) (fs : List Function) → (follow 0 (function_slots fs) n ≡ true)
+    ↔ (((front : List Function) (f : Function) (back : List Function) → fs ≡ front ++ f ∷ back → f.slots.start ≡ slots_of front) × (slots_of fs ≤ n))
+slots_follow n fs =
+    let is = follow_is (λ _. true) (λ f. f.slots) function_slots slots_of refl refl (λ f gs. refl) (λ f gs. refl) n fs in
+    (λ h. (λ front f back e. (is.0 h).0 front f back e refl, (is.0 h).1), λ w. is.1 (λ front f back e _. w.0 front f back e, w.1))
