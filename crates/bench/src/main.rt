@@ -6,7 +6,9 @@ ghost use Rattle.kallsyms.specs.Cut.{lines_from};
 ghost use Rattle.kallsyms.specs.Line.{count_of};
 
 use kallsyms::text::Text;
-use lookup::scan::{look_up, unlisted};
+use lookup::choice::asked;
+use lookup::names::Names;
+use lookup::scan::look_up;
 use std::process::ExitCode;
 use std::time::{Duration, Instant};
 use std::{env, fs, io};
@@ -14,18 +16,16 @@ use std::{env, fs, io};
 const RUNS: u32 = 15;
 
 // How long one scan takes, and how many lines it read.
-// A list's bytes and the names are two arguments: they come from two places, and a struct for them would be made for one call.
-fn timed(rt: &HostRuntime, bytes: &[u8], names: &[String]) -> io::Result<(Duration, u64)>
+fn timed<N: Names>(rt: &HostRuntime, bytes: &[u8], names: &mut N) -> io::Result<(Duration, u64)>
     ensures { IfOk result (λ t. t.1 ≡ count_of (lines_from 1 bytes.now)) }
 {
-    let mut sightings = unlisted(rt.alloc(), names)?;
     let start = Instant::now(rt)?;
-    let reading = look_up(&mut Text::new(bytes), &mut sightings);
+    let reading = look_up(&mut Text::new(bytes), names);
     Ok((start.elapsed(rt)?, reading.lines))
 }
 
-// The shortest of several scans, and how many lines each read; two arguments, as in `timed`.
-fn best(rt: &HostRuntime, bytes: &[u8], names: &[String]) -> io::Result<(Duration, u64)>
+// The shortest of several scans, and how many lines each read.
+fn best<N: Names>(rt: &HostRuntime, bytes: &[u8], names: &mut N) -> io::Result<(Duration, u64)>
     ensures { IfOk result (λ t. t.1 ≡ count_of (lines_from 1 bytes.now)) }
 {
     let (mut shortest, mut lines) = timed(rt, bytes, names)?;
@@ -48,7 +48,9 @@ fn main(rt: HostRuntime) -> io::Result<ExitCode> {
         }
     };
     let bytes = fs::read(&rt, list.as_str())?;
-    let (shortest, lines) = best(&rt, &bytes, names)?;
+    // The map that the tool takes too, made once: each scan leaves every name unlisted first.
+    let mut map = asked(rt.alloc(), names)?;
+    let (shortest, lines) = best(&rt, &bytes, &mut map)?;
     let micros = shortest.as_micros();
     eprintln!(rt; "best of {RUNS}: {micros} us")?;
     println!(rt; "{lines} lines")?;

@@ -30,6 +30,7 @@ fn is_separator(b: u8) -> bool
 }
 
 // The first field that begins at `from` or after it.
+#[inline(always)]
 fn field_after(line: &[u8], from: usize) -> Option<Field<'_>>
     requires { from ≤ length line.now }
     ensures { MatchOption result (fields_from from (drop from line.now) ≡ []) (λ f. Begins line.now from f.start f.bytes.now) }
@@ -49,6 +50,7 @@ fn field_after(line: &[u8], from: usize) -> Option<Field<'_>>
 
 impl<'a> Fields<'a> {
     /// The first three fields of the line, or none if it has fewer.
+    #[inline(always)]
     pub fn of(line: &'a [u8]) -> Option<Fields<'a>>
         ensures { MatchOption result (length (fields_from 0 line.now) < 3) (λ f. (3 ≤ length (fields_from 0 line.now)) × (f.line.now ≡ line.now)) }
     {

@@ -1,5 +1,6 @@
 // The lines of a text in memory.
 ghost use Rattle.std.specs.Prelude.{◌≡◌, ◌<◌, ◌≤◌, ◌∷◌, ◌++◌, length, drop};
+ghost use Rattle.memchr.specs.Find.{IsFirstByte, is_byte};
 ghost use Rattle.kallsyms.specs.Cut.{lines_from, end_from, pieces, verdict};
 ghost use Rattle.kallsyms.specs.Pieces.{bare};
 ghost use Rattle.kallsyms.specs.Goodness.{good_kept};
@@ -37,19 +38,35 @@ struct Piece<'a> {
 }
 
 // Without a carriage return at the end.
+#[inline(always)]
 fn stripped(piece: &[u8]) -> &[u8]
     ensures { result.now ≡ bare piece.now }
 {
     piece.strip_suffix(b"\r").unwrap_or(piece)
 }
 
+// The index of the first line feed; the first bytes are looked at one by one, since a search does not repay itself on a line of a few bytes.
+#[inline(always)]
+fn line_feed(bytes: &[u8]) -> Option<usize>
+    ensures { IsFirstByte (is_byte 10) bytes.now result }
+{
+    match bytes {
+        [b'\n', ..] => Some(0),
+        [_, b'\n', ..] => Some(1),
+        [_, _, b'\n', ..] => Some(2),
+        [_, _, _, b'\n', ..] => Some(3),
+        _ => memchr(b'\n', bytes),
+    }
+}
+
 // The first piece of a text that is not empty.
 #[tactic(auto, using(crate::proofs::Pieced::piece_last))]
+#[inline(always)]
 fn first_piece(bytes: &[u8]) -> Piece<'_>
     requires { 0 < length bytes.now }
     ensures cut { pieces bytes.now ≡ result.bytes.now ∷ pieces result.rest.now }
 {
-    match memchr(b'\n', bytes) {
+    match line_feed(bytes) {
         Some(at) => Piece {
             bytes: stripped(&bytes[..at]),
             rest: &bytes[at + 1..],
@@ -63,6 +80,7 @@ fn first_piece(bytes: &[u8]) -> Piece<'_>
 
 // Whether the piece at a line number is a line, or else its fault.
 #[tactic(auto, using(crate::proofs::Pieced::ascii_plain, crate::proofs::Pieced::not_plain))]
+#[inline(always)]
 fn judged(line: u64, piece: &[u8]) -> End
     ensures { result ≡ verdict line piece.now }
 {
@@ -76,6 +94,7 @@ fn judged(line: u64, piece: &[u8]) -> End
 }
 
 // Puts a line at the front of the buffer.
+#[inline(always)]
 fn put(buffer: &mut [u8; LINE_LEN], line: &[u8])
     requires { length line.now ≤ 1024 }
     ensures { buffer.new ≡ line.now ++ drop (length line.now) buffer.old }
@@ -90,6 +109,7 @@ impl<'a> LineSource for Text<'a> {
 
     ghost good = { λ s. good_kept s.line (pieces s.rest.now) };
 
+    #[inline(always)]
     fn next(&mut self, buffer: &mut [u8; LINE_LEN]) -> Result<Option<usize>, Fault> {
         let bytes = self.rest;
         if bytes.is_empty() {

@@ -1,14 +1,25 @@
--- What a map of names and answers has for the names that were asked. Assumes nothing.
-use Rattle.std.specs.Prelude.{◌≡◌, List, Some, map, All, IsSome, string_bytes, String}
+-- What is told of the names that were asked. Assumes nothing.
+use Rattle.std.specs.Prelude.{◌≡◌, ℕ, List, Option, Some, map, All, IsSome, string_bytes, String}
 use Rattle.std.specs.declared.alloc.Global.{Global}
-use Rattle.lookup.specs.LookedUp.{Sightings, sighting_of}
+use Rattle.kallsyms.specs.Cut.{lines_from, end_from}
+use Rattle.kallsyms.specs.Line.{count_of}
+use Rattle.lookup.specs.Says.{Says}
+use Rattle.lookup.specs.declared.scan.Reading.{Reading}
+use Rattle.lookup.specs.declared.sighting.Sighting.{Sighting}
 use Rattle.ksyms.specs.declared.summary.Told.{Told}
 
--- each of the names is in the map
-abbrev pub HasNames : List (String Global) → Sightings → Type 0
-HasNames names m = All (λ name. IsSome (sighting_of m (string_bytes name))) names
+-- something is said of each of the names
+abbrev pub HasNames : List (String Global) → (List ℕ → Option Sighting) → Type 0
+HasNames names said = All (λ name. IsSome (said (string_bytes name))) names
 
--- the names are told in turn, with what the map says of each
-pub record Tells (names : List (String Global)) (m : Sightings) (tolds : List Told) : Type 0 where
+-- the names are told in turn, with what is said of each
+pub record Tells (names : List (String Global)) (said : List ℕ → Option Sighting) (tolds : List Told) : Type 0 where
   pub named : map (λ t. t.name.now) tolds ≡ map string_bytes names
-  pub says : All (λ t. sighting_of m t.name.now ≡ Some t.sighting) tolds
+  pub says : All (λ t. said t.name.now ≡ Some t.sighting) tolds
+
+-- the names are told in turn, with what the lines of these bytes say of each, and the reading took these lines and their end
+pub record Finds (bytes : List ℕ) (names : List (String Global)) (tolds : List Told) (reading : Reading) : Type 0 where
+  pub named : map (λ t. t.name.now) tolds ≡ map string_bytes names
+  pub says : All (λ t. Says (lines_from 1 bytes) t.name.now t.sighting) tolds
+  pub count : reading.lines ≡ count_of (lines_from 1 bytes)
+  pub end : reading.end ≡ end_from 1 bytes

@@ -1,15 +1,16 @@
 // What the tool answers, as text.
 ghost use Rattle.std.specs.Prelude.{◌≡◌, ◌++◌, IfOk, string_bytes, OnOk};
 ghost use Rattle.ksyms.specs.Answers.{end_lines, told_lines, answer_text, Answers};
-ghost use Rattle.ksyms.specs.Tells.{HasNames, Tells};
+ghost use Rattle.ksyms.specs.Tells.{Finds, HasNames, Tells};
 
 use crate::summary::{Summary, Told, found};
 use kallsyms::ends::End;
 use kallsyms::text::Text;
-use lookup::scan::{Reading, look_up, unlisted};
+use lookup::choice::asked;
+use lookup::names::NameMap;
+use lookup::scan::{Reading, look_up};
 use lookup::sighting::Sighting;
 use std::alloc::{AllocError, Global};
-use std::collections::BTreeMap;
 use std::fmt::Write;
 
 // The line for a list that is broken, or nothing.
@@ -25,23 +26,37 @@ fn end_lines(heap: Global, end: End) -> Result<String, AllocError>
 }
 
 // What a map says of each of the names, in their order.
-fn told_of<'a>(
+fn told_of<'a, M: NameMap>(
     heap: Global,
     names: &'a [String],
-    sightings: &BTreeMap<&[u8], Sighting>,
+    map: &M,
 ) -> Result<Vec<Told<'a>>, AllocError>
-    requires { HasNames names.now sightings.now }
-    ensures { IfOk result (λ v. Tells names.now sightings.now v.items) }
+    requires { HasNames names.now (M.said map.now) }
+    ensures { IfOk result (λ v. Tells names.now (M.said map.now) v.items) }
 {
-    let mut tolds = Vec::new(heap);
+    let mut tolds = Vec::with_capacity(heap, names.len())?;
     for name in names {
-        let sighting = sightings[name.as_bytes()];
+        let sighting = map.said(name.as_bytes()).unwrap_or(Sighting::Unlisted);
         tolds.push(Told {
             name: name.as_str(),
             sighting,
         })?;
     }
     Ok(tolds)
+}
+
+// What a list of these bytes says of each of the names, in their order, and what the reading took.
+fn found_of<'a>(
+    heap: Global,
+    bytes: &[u8],
+    names: &'a [String],
+) -> Result<(Vec<Told<'a>>, Reading), AllocError>
+    ensures { IfOk result (λ r. Finds bytes.now names.now r.0.items r.1) }
+{
+    let mut map = asked(heap, names)?;
+    let reading = look_up(&mut Text::new(bytes), &mut map);
+    let tolds = told_of(heap, names, &map)?;
+    Ok((tolds, reading))
 }
 
 // Adds the line for each name to a text.
@@ -74,8 +89,6 @@ fn answer_text(heap: Global, tolds: &[Told], reading: Reading) -> Result<String,
 pub fn answer(heap: Global, bytes: &[u8], names: &[String]) -> Result<String, AllocError>
     ensures { IfOk result (λ s. Answers bytes.now names.now (string_bytes s)) }
 {
-    let mut sightings = unlisted(heap, names)?;
-    let reading = look_up(&mut Text::new(bytes), &mut sightings);
-    let tolds = told_of(heap, names, &sightings)?;
+    let (tolds, reading) = found_of(heap, bytes, names)?;
     answer_text(heap, &tolds, reading)
 }

@@ -2,3 +2,5 @@ pub mod Asking
 pub mod Alone
 pub mod Noting
 pub mod Saying
+pub mod RowNoting
+pub mod RowSaying

@@ -10,8 +10,6 @@ use Rattle.std.specs.Str.{bytes_eq}
 use Rattle.kallsyms.specs.Fields.{fields, field}
 use Rattle.kallsyms.specs.Address.{address}
 use Rattle.lookup.specs.After.{after}
-use Rattle.lookup.specs.LookedUp.{Sightings, sighting_of}
-use Rattle.lookup.specs.Noted.{Notes}
 use Rattle.kallsyms.specs.Line.{number_after}
 use Rattle.lookup.specs.Says.{Lists, Gives, Before, ZeroOr, Says}
 use Rattle.lookup.specs.declared.sighting.Sighting.{Sighting}
@@ -62,7 +60,7 @@ module _ (xs : List (List ℕ)) (l name : List ℕ) where
       ⊎_elim (λ less. h j a less (gives_back j a less g)) last (cases_lt j (length xs))
 
   -- the same is said
-  stays : (s : Sighting) → (Lists name l → Stays s (address (field 0 l).bytes)) → Says xs name s → Says (xs ++ l ∷ []) name s
+  pub stays : (s : Sighting) → (Lists name l → Stays s (address (field 0 l).bytes)) → Says xs name s → Says (xs ++ l ∷ []) name s
   stays Unlisted new y = before_more _ y new
   stays (OnlyZero n) new y =
       let lt = y.gives.0 in
@@ -167,18 +165,19 @@ IfSome-map : {X : Type 0} (P Q : X → Type 0) (f : X → X) (o : Option X) → 
 IfSome-map P Q f None h g = tt
 IfSome-map P Q f (Some x) h g = g x h
 
--- what a map holds of each name is what the lines with the one in the buffer say, which was noted
-pub notes_say : (xs : List (List ℕ)) (l b : List ℕ) (n : ℕ) (old new : Sightings)
-    → b ≡ l
+-- where what is held of each name is what the lines say, it is so with one line more that was noted
+pub notes_say : (xs : List (List ℕ)) (l : List ℕ) (n : ℕ) (old new : List ℕ → Option Sighting)
     → n ≡ number_after (length xs)
-    → Notes n b old new
-    → ((name : List ℕ) → IfSome (sighting_of old name) (Says xs name))
+    → ((name : List ℕ) → Lists name l → new name ≡ option_map (after n (address (field 0 l).bytes)) (old name))
+    → ((name : List ℕ) → ¬ Lists name l → new name ≡ old name)
+    → ((name : List ℕ) → IfSome (old name) (Says xs name))
     → (name : List ℕ)
-    → IfSome (sighting_of new name) (Says (xs ++ l ∷ []) name)
-notes_say xs l b n old new here numbered notes says name =
+    → IfSome (new name) (Says (xs ++ l ∷ []) name)
+notes_say xs l n old new numbered listed others says name =
     let P : Option Sighting → Type 0 = λ o. IfSome o (Says (xs ++ l ∷ []) name) in
-    let noted : Notes (number_after (length xs)) l old new = subst (λ m. Notes m l old new) numbered (subst (λ r. Notes n r old new) here notes) in
+    let now : Lists name l → new name ≡ option_map (after (number_after (length xs)) (address (field 0 l).bytes)) (old name) =
+    λ h. subst (λ m. new name ≡ option_map (after m (address (field 0 l).bytes)) (old name)) numbered (listed name h) in
     ⊎_elim
-    (λ h. subst P (sym (noted.listed name h)) (IfSome-map (Says xs name) _ (after (number_after (length xs)) (address (field 0 l).bytes)) (sighting_of old name) (says name) (more xs l name h (address (field 0 l).bytes) refl)))
-    (λ no. subst P (sym (noted.others name no)) (IfSome_then (sighting_of old name) (says name) (λ s. stays xs l name s (λ h. absurd (no h)))))
+    (λ h. subst P (sym (now h)) (IfSome-map (Says xs name) _ (after (number_after (length xs)) (address (field 0 l).bytes)) (old name) (says name) (more xs l name h (address (field 0 l).bytes) refl)))
+    (λ no. subst P (sym (others name no)) (IfSome_then (old name) (says name) (λ s. stays xs l name s (λ h. absurd (no h)))))
     (cases_Lists name l)

@@ -4,3 +4,6 @@ pub mod Laws
 pub mod LookedUp
 pub mod Noted
 pub mod Asked
+pub mod Rows
+pub mod Hashed
+pub mod Choice

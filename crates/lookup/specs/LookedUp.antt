@@ -1,7 +1,9 @@
 -- What a lookup leaves in a map of names and answers. Assumes nothing.
-use Rattle.std.specs.Prelude.{◌≡◌, ℕ, List, Option, IfSome}
+use Rattle.std.specs.Prelude.{◌≡◌, ℕ, List, Option, IfSome, IsSome}
+use Rattle.std.proofs.Common.{◌∙◌, sym}
+use Rattle.std.proofs.lemmas.Map.Made.{IsSome-lookup_same_keys}
 use Rattle.std.specs.Borrow.{Bor}
-use Rattle.std.specs.BTreeMap.{BTreeMap, keys, get_by}
+use Rattle.std.specs.BTreeMap.{BTreeMap, keys, get_by, is_at}
 use Rattle.std.specs.Cmp.Lexicographic.{slice_cmp}
 use Rattle.std.specs.Ordering.{nat_cmp}
 use Rattle.kallsyms.specs.Line.{count_of}
@@ -18,10 +20,26 @@ Sightings = BTreeMap (Bor (List ℕ)) Sighting
 abbrev pub sighting_of : Sightings → List ℕ → Option Sighting
 sighting_of m name = get_by (λ k. slice_cmp nat_cmp name k.now) m
 
--- the map has the names that it had, with what the lines say of each,
+-- the map has at each of its names what the lines say of it
+abbrev pub MapHolds : List (List ℕ) → Sightings → Type 0
+MapHolds ls m = (name : List ℕ) → IfSome (sighting_of m name) (Says ls name)
+
+-- the second map has the names of the first
+abbrev pub MapKeeps : Sightings → Sightings → Type 0
+MapKeeps old new = keys new ≡ keys old
+
+-- names that a map keeps twice are kept
+pub map_kept : (a b c : Sightings) → MapKeeps a b → MapKeeps b c → MapKeeps a c
+map_kept a b c e f = f ∙ e
+
+-- a name that a map keeps is still there
+pub map_has : (a b : Sightings) → MapKeeps a b → (name : List ℕ) → IsSome (sighting_of a name) → IsSome (sighting_of b name)
+map_has a b same name = (IsSome-lookup_same_keys (is_at (λ k. slice_cmp nat_cmp name k.now)) a.entries b.entries (sym same)).0
+
+-- the names are those that there were, with what the lines say of each,
 -- and the answer is how many lines there are, and their end
-pub record LookedUp (ls : List (List ℕ)) (e : End) (old new : Sightings) (reading : Reading) : Type 0 where
-  pub names : keys new ≡ keys old
-  pub says : (name : List ℕ) → IfSome (sighting_of new name) (Says ls name)
+pub record LookedUp {T : Type 0} (Holds : List (List ℕ) → T → Type 0) (Keeps : T → T → Type 0) (ls : List (List ℕ)) (e : End) (old new : T) (reading : Reading) : Type 0 where
+  pub names : Keeps old new
+  pub says : Holds ls new
   pub count : reading.lines ≡ count_of ls
   pub end : reading.end ≡ e

@@ -6,6 +6,7 @@ ghost use Rattle.lookup.specs.LookedUp.{LookedUp, sighting_of};
 ghost use Rattle.lookup.specs.Noted.{Notes};
 ghost use Rattle.lookup.specs.Says.{Says};
 
+use crate::names::Names;
 use crate::sighting::Sighting;
 use kallsyms::address::read_address;
 use kallsyms::ends::End;
@@ -35,7 +36,7 @@ pub fn unlisted(heap: Global, names: &[String]) -> Result<BTreeMap<&[u8], Sighti
 }
 
 // Takes one line more into what is said of the name that it lists.
-fn note_line(sightings: &mut BTreeMap<&[u8], Sighting>, line_number: u64, line: &[u8])
+pub(crate) fn note_line(sightings: &mut BTreeMap<&[u8], Sighting>, line_number: u64, line: &[u8])
     ensures { Notes line_number line.now sightings.old sightings.new }
 {
     let Some(fields) = Fields::of(line) else {
@@ -56,7 +57,7 @@ pub struct Reading {
 }
 
 // Leaves every name unlisted, which is what no lines say of it.
-fn unlist(sightings: &mut BTreeMap<&[u8], Sighting>)
+pub(crate) fn unlist(sightings: &mut BTreeMap<&[u8], Sighting>)
     ensures names { keys sightings.new ≡ keys sightings.old }
     ensures says { (name : List ℕ) → IfSome (sighting_of sightings.new name) (Says [] name) }
 {
@@ -67,13 +68,13 @@ fn unlist(sightings: &mut BTreeMap<&[u8], Sighting>)
     });
 }
 
-/// Reads a source to its end, once, and leaves at each name of the map what the source's lines say of it, whatever was there.
-pub fn look_up<S: LineSource>(source: &mut S, sightings: &mut BTreeMap<&[u8], Sighting>) -> Reading
-    ensures found { LookedUp (S.lines source.old) (S.end source.old) sightings.old sightings.new result }
+/// Reads a source to its end, once, and leaves at each name what the source's lines say of it, whatever was there.
+pub fn look_up<S: LineSource, N: Names>(source: &mut S, names: &mut N) -> Reading
+    ensures found { LookedUp N.holds N.keeps (S.lines source.old) (S.end source.old) names.old names.new result }
     ensures rest { S.lines source.new ≡ [] }
     ensures kept { S.end source.new ≡ S.end source.old }
 {
-    unlist(sightings);
+    names.unlist();
     let mut buffer = [0u8; LINE_LEN];
     // Counted by hand: a source lends one buffer, so it is no iterator, and the count stays at the greatest.
     let mut lines: u64 = 0;
@@ -81,7 +82,7 @@ pub fn look_up<S: LineSource>(source: &mut S, sightings: &mut BTreeMap<&[u8], Si
         match source.next(&mut buffer) {
             Ok(Some(len)) => {
                 lines = lines.saturating_add(1);
-                note_line(sightings, lines, &buffer[..len]);
+                names.note(lines, &buffer[..len]);
             }
             Ok(None) => break 'lines Ok(()),
             Err(fault) => break 'lines Err(fault),

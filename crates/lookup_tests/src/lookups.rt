@@ -1,5 +1,8 @@
 use kallsyms::ends::Fault;
 use kallsyms::text::Text;
+use lookup::hashed::hashed;
+use lookup::names::NameMap;
+use lookup::rows::{Rows, look_up_rows};
 use lookup::scan::{look_up, unlisted};
 use lookup::sighting::Sighting;
 use std::test::Fail;
@@ -67,6 +70,58 @@ fn what_was_said_before_is_forgotten(rt: HostRuntime) -> Result<(), Fail> {
     assert_eq!(rt;
         sightings.get(b"a".as_slice()).copied(),
         Some(Sighting::Unlisted)
+    );
+    Ok(())
+}
+
+#[test]
+fn many_names_get_what_the_lines_say(rt: HostRuntime) -> Result<(), Fail> {
+    let names = vec![in rt.alloc();
+        String::from_str(rt.alloc(), "a")?,
+        String::from_str(rt.alloc(), "b")?,
+        String::from_str(rt.alloc(), "a")?,
+    ]?;
+    let mut sightings = hashed(rt.alloc(), &names)?;
+    assert_eq!(rt; sightings.len(), 2, "asked twice, there once");
+    assert_eq!(rt; sightings.said(b"b"), Some(Sighting::Unlisted));
+    let reading = look_up(&mut Text::new(b"0 d a\na0 d b\n"), &mut sightings);
+    assert_eq!(rt; reading.lines, 2);
+    assert_eq!(rt; sightings.said(b"a"), Some(Sighting::OnlyZero { line: 1 }));
+    assert_eq!(rt;
+        sightings.said(b"b"),
+        Some(Sighting::At {
+            line: 2,
+            address: 160
+        })
+    );
+    assert_eq!(rt; sightings.said(b"c"), None);
+    Ok(())
+}
+
+#[test]
+fn rows_on_the_stack_are_enough(rt: HostRuntime) -> Result<(), Fail> {
+    let names = vec![in rt.alloc();
+        String::from_str(rt.alloc(), "b")?,
+        String::from_str(rt.alloc(), "b")?,
+        String::from_str(rt.alloc(), "a")?,
+    ]?;
+    let mut rows = [Sighting::OnlyZero { line: 9 }; 2];
+    let reading = look_up_rows(&mut Text::new(b"0 d a\na0 d b\n"), &names, &mut rows);
+    assert_eq!(rt; reading.lines, 2);
+    let found = Sighting::At {
+        line: 2,
+        address: 160,
+    };
+    assert_eq!(rt; rows, [found, found], "a name without a row is passed over");
+    let mut spare = [Sighting::OnlyZero { line: 9 }; 2];
+    let _ = look_up(
+        &mut Text::new(b"0 d b\n"),
+        &mut Rows::new(&names[..1], &mut spare),
+    );
+    assert_eq!(rt;
+        spare,
+        [Sighting::OnlyZero { line: 1 }, Sighting::Unlisted],
+        "a row without a name is unlisted"
     );
     Ok(())
 }

@@ -4,4 +4,4 @@ use Rattle.kallsyms.specs.Line.{count_of}
 use Rattle.bench.proofs.best.Given as goal
 
 abbrev pub invariant-loop : goal.invariant-loop
-invariant-loop l = l.lines ≡ count_of (lines_from 1 l.bytes)
+invariant-loop g l = l.lines ≡ count_of (lines_from 1 l.bytes)

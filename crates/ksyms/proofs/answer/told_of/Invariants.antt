@@ -4,4 +4,4 @@ use Rattle.ksyms.proofs.answer.told_of.Given as goal
 
 -- the names so far are told
 abbrev pub invariant-loop-name : goal.invariant-loop-name
-invariant-loop-name l = Tells (take l.name-index l.names) l.sightings l.tolds.items
+invariant-loop-name g l = Tells (take l.name-index l.names) (g.M.NameMap.said l.map) l.tolds.items

@@ -1,0 +1,70 @@
+// Names in a map of one of two kinds.
+ghost use Rattle.std.specs.Prelude.{◌≡◌, ℕ, List, IfOk};
+ghost use Rattle.either.specs.Either.{either};
+ghost use Rattle.lookup.specs.Asked.{asked};
+ghost use Rattle.lookup.specs.Choice.{Holds, Alike, alike_twice, chosen_says, chosen_has, said_by};
+
+use crate::hashed::hashed;
+use crate::names::{NameMap, Names};
+use crate::scan::unlisted;
+use crate::sighting::Sighting;
+use kallsyms::choice::Either;
+use std::alloc::{AllocError, Global};
+use std::collections::{BTreeMap, HashMap};
+
+// Up to how many names go into a sorted map: it takes less for each line, and a hash map less for each name.
+const FEW_NAMES: usize = 512;
+
+/// The names of the one that it is.
+impl<A: Names, B: Names> Names for Either<A, B> {
+    ghost holds = { Holds A.Names.holds B.Names.holds };
+
+    ghost keeps = { Alike A.Names.keeps B.Names.keeps };
+
+    ghost kept = { alike_twice A.Names.keeps B.Names.keeps A.Names.kept B.Names.kept };
+
+    fn unlist(&mut self) {
+        match self {
+            Either::Left(a) => a.unlist(),
+            Either::Right(b) => b.unlist(),
+        }
+    }
+
+    #[inline(always)]
+    fn note(&mut self, line_number: u64, line: &[u8]) {
+        match self {
+            Either::Left(a) => a.note(line_number, line),
+            Either::Right(b) => b.note(line_number, line),
+        }
+    }
+}
+
+impl<A: NameMap, B: NameMap> NameMap for Either<A, B> {
+    ghost said = { either A.NameMap.said B.NameMap.said };
+
+    ghost says = { chosen_says A.Names.holds B.Names.holds A.NameMap.said B.NameMap.said A.NameMap.says B.NameMap.says };
+
+    ghost has = { chosen_has A.Names.keeps B.Names.keeps A.NameMap.said B.NameMap.said A.NameMap.has B.NameMap.has };
+
+    fn said(&self, name: &[u8]) -> Option<Sighting> {
+        match self {
+            Either::Left(a) => a.said(name),
+            Either::Right(b) => b.said(name),
+        }
+    }
+}
+
+/// A map that has each of these names, unlisted, and no others: a sorted one for a few names, else a hash map.
+// A sorted map compares each name with some others, which a list of few lines does not repay.
+pub fn asked<'a>(
+    heap: Global,
+    names: &'a [String],
+) -> Result<Either<BTreeMap<&'a [u8], Sighting>, HashMap<&'a [u8], Sighting>>, AllocError>
+    ensures { IfOk result (λ m. (bytes : List ℕ) → said_by m bytes ≡ asked names.now bytes) }
+{
+    if names.len() <= FEW_NAMES {
+        Ok(Either::Left(unlisted(heap, names)?))
+    } else {
+        Ok(Either::Right(hashed(heap, names)?))
+    }
+}
