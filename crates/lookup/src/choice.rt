@@ -12,8 +12,8 @@ use kallsyms::choice::Either;
 use std::alloc::{AllocError, Global};
 use std::collections::{BTreeMap, HashMap};
 
-// Up to how many names go into a sorted map: it takes less for each line, and a hash map less for each name.
-const FEW_NAMES: usize = 512;
+// Up to how many names go into a sorted map: for a few it takes less for each line, and a hash map takes less for each name.
+const FEW_NAMES: usize = 64;
 
 /// The names of the one that it is.
 impl<A: Names, B: Names> Names for Either<A, B> {
