@@ -5,7 +5,7 @@ ghost use Rattle.lookup.specs.Index.{spot_of, IsLast, Finds};
 use std::alloc::{AllocError, Global};
 use std::hash::{FoldHasher, Hasher};
 
-// The fewest spots: where there are more than names, most lines find none.
+// The fewest spots of several names: where there are more than names, most lines find none.
 const FEWEST_SPOTS: usize = 64;
 
 // Where the rows of names are: the names that have one spot follow each other, the last of them first.
@@ -26,9 +26,23 @@ fn spot(name: &[u8], spots: usize) -> usize
     ensures value { result ≡ spot_of spots name.now }
     ensures bound { result < spots }
 {
+    if spots == 1 {
+        return 0;
+    }
     let mut hasher = FoldHasher::default();
     hasher.write(name);
     hasher.finish() as usize & (spots - 1)
+}
+
+// How many spots these names have: one name has one, and needs no hash.
+fn spots_for(names: &[String]) -> usize
+    ensures { 0 < result }
+{
+    if names.len() <= 1 {
+        1
+    } else {
+        names.len().max(FEWEST_SPOTS).next_power_of_two()
+    }
 }
 
 impl<'n> Index<'n> {
@@ -36,7 +50,7 @@ impl<'n> Index<'n> {
     pub(crate) fn of(heap: Global, names: &'n [String]) -> Result<Index<'n>, AllocError>
         ensures { IfOk result (λ x. x.names.now ≡ names.now) }
     {
-        let spots = names.len().max(FEWEST_SPOTS).next_power_of_two();
+        let spots = spots_for(names);
         let mut last = vec![in heap; None; spots]?;
         let mut before = Vec::with_capacity(heap, names.len())?;
         for (i, name) in names.iter().enumerate() {

@@ -1,5 +1,5 @@
 -- Tried without: the check leaves these goals open.
-use Rattle.std.proofs.Common.{rules, ◌≡◌, ◌<◌, None, length, replicate, get_or, sym, ap, ◌∙◌, arith}
+use Rattle.std.proofs.Common.{rules, ◌≡◌, None, length, replicate, get_or, sym, ap, ◌∙◌, arith}
 use Rattle.std.proofs.lemmas.List.{get_or_default}
 use Rattle.lookup.proofs.RowNoting.{name_read}
 use Rattle.lookup.proofs.Chaining.{chained_none, chained_more, chained_all}
@@ -9,14 +9,14 @@ use Rattle.lookup.proofs.index.Index.of.Goals as goal
 
 pub loop-i-init : goal.loop-i-init
 loop-i-init c =
-    let spots = c.next_power_of_two-spots.result in
+    let spots = c.spots_for-spots.result in
     let none : c.in_ok-last.last.items ≡ replicate spots None = c.in_ok-last.ensures.items_if_clones_equal (λ y h. search rules) in
     rw none (rw c.in_ok-before.ensures.items (chained_none c.args.names.now spots))
 
 pub loop-i-preserved : goal.loop-i-preserved
 loop-i-preserved c =
     let names = c.args.names.now in
-    let spots = c.next_power_of_two-spots.result in
+    let spots = c.spots_for-spots.result in
     let i = c.loop-i.i in
     let name = c.as_bytes.ensures.value ∙ sym (name_read names i c.index-names-i.result c.loop-i-test.true c.index-names-i.is) in
     let is : c.spot-spot.result ≡ spot_of spots (name_at names i) = c.spot-spot.ensures.value ∙ ap (spot_of spots) name in
@@ -26,5 +26,4 @@ loop-i-preserved c =
 pub invariant_of-result : goal.invariant_of-result
 invariant_of-result c =
     let ends : c.loop-i.i ≡ length c.args.names.now = omega (arith, c.loop-i-test.false, c.loop-i.auto.i-end) in
-    let some : 0 < c.next_power_of_two-spots.result = omega (arith, c.next_power_of_two-spots.ensures.lower_bound, c.max.ensures) in
-    record { finds = chained_all c.args.names.now c.next_power_of_two-spots.result c.loop-i.i c.loop-i.last.items c.loop-i.before.items ends some c.loop-i.invariant }
+    record { finds = chained_all c.args.names.now c.spots_for-spots.result c.loop-i.i c.loop-i.last.items c.loop-i.before.items ends c.spots_for-spots.ensures c.loop-i.invariant }
