@@ -5,7 +5,7 @@ use Rattle.std.proofs.lemmas.List.{get_or-set_same, get_or-set_other, get_or-rep
 use Rattle.std.proofs.Math.Seq.{get_or-append_seam}
 use Rattle.std.specs.declared.alloc.Global.{Global}
 use Rattle.lookup.specs.Rows.{name_at}
-use Rattle.lookup.specs.Index.{spot_of, IsLast, Finds}
+use Rattle.lookup.specs.Index.{spot_of, IsLast, Indexes}
 
 -- the first i names, by so many spots
 pub record Chained (names : List (String Global)) (spots i : ℕ) (lasts befores : List (Option ℕ)) : Type 0 where
@@ -93,12 +93,12 @@ module _ (names : List (String Global)) (spots : ℕ) where
     }
 
   -- all the names
-  pub chained_all : (n : ℕ) (lasts befores : List (Option ℕ)) → n ≡ length names → 0 < spots → Chained names spots n lasts befores → Finds names lasts befores
+  pub chained_all : (n : ℕ) (lasts befores : List (Option ℕ)) → n ≡ length names → 0 < spots → Chained names spots n lasts befores → Indexes names lasts befores
   chained_all n lasts befores whole some h =
       let of_size : (P : ℕ → Type 0) → P spots → P (length lasts) = λ P p. subst P (sym h.size) p in
       let of_all : (P : ℕ → Type 0) → P n → P (length names) = λ P p. subst P whole p in
       record {
-        some = of_size (λ s. 0 < s) some;
+        spots = of_size (λ s. 0 < s) some;
         all = h.all ∙ whole;
         ends = of_size (λ s. (spot : ℕ) → spot < s → IsLast names s spot (length names) (get_or lasts spot None)) (of_all (λ m. (spot : ℕ) → spot < spots → IsLast names spots spot m (get_or lasts spot None)) h.ends);
         steps = of_size (λ s. (k : ℕ) → k < length names → IsLast names s (spot_of s (name_at names k)) k (get_or befores k None)) (of_all (λ m. (k : ℕ) → k < m → IsLast names spots (spot_of spots (name_at names k)) k (get_or befores k None)) h.steps);
@@ -106,21 +106,21 @@ module _ (names : List (String Global)) (spots : ℕ) where
 
 -- what stands at the spot of some bytes is the last name that has it
 pub last_found : (names : List (String Global)) (lasts befores : List (Option ℕ)) (bytes : List ℕ) (spot : ℕ) (o : Option ℕ)
-    → Finds names lasts befores
+    → Indexes names lasts befores
     → spot ≡ spot_of (length lasts) bytes
     → spot < length lasts
     → o ≡ get_or lasts spot o
     → IsLast names (length lasts) (spot_of (length lasts) bytes) (length names) o
-last_found names lasts befores bytes spot o finds is in_range there =
+last_found names lasts befores bytes spot o indexes is in_range there =
     subst (IsLast names (length lasts) (spot_of (length lasts) bytes) (length names)) (sym (there ∙ get_or_default lasts spot o None in_range))
-    (subst (λ x. IsLast names (length lasts) x (length names) (get_or lasts spot None)) is (finds.ends spot in_range))
+    (subst (λ x. IsLast names (length lasts) x (length names) (get_or lasts spot None)) is (indexes.ends spot in_range))
 
 -- what stands before a name is the last one before it that has its spot
 pub last_before : (names : List (String Global)) (lasts befores : List (Option ℕ)) (k : ℕ) (o : Option ℕ)
-    → Finds names lasts befores
+    → Indexes names lasts befores
     → k < length names
     → o ≡ get_or befores k o
     → IsLast names (length lasts) (spot_of (length lasts) (name_at names k)) k o
-last_before names lasts befores k o finds in_range there =
-    subst (IsLast names (length lasts) (spot_of (length lasts) (name_at names k)) k) (sym (there ∙ get_or_default befores k o None (omega (arith, finds.all, in_range))))
-    (finds.steps k in_range)
+last_before names lasts befores k o indexes in_range there =
+    subst (IsLast names (length lasts) (spot_of (length lasts) (name_at names k)) k) (sym (there ∙ get_or_default befores k o None (omega (arith, indexes.all, in_range))))
+    (indexes.steps k in_range)

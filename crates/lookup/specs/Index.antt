@@ -14,8 +14,8 @@ pub record IsLast (names : List (String Global)) (spots spot n : ℕ) (o : Optio
   pub none : o ≡ None → (j : ℕ) → j < n → spot_of spots (name_at names j) ≢ spot
 
 -- each spot has the last name whose spot it is, and each name the last before it that has its spot
-pub record Finds (names : List (String Global)) (last before : List (Option ℕ)) : Type 0 where
-  pub some : 0 < length last
+pub record Indexes (names : List (String Global)) (last before : List (Option ℕ)) : Type 0 where
+  pub spots : 0 < length last
   pub all : length before ≡ length names
   pub ends : (spot : ℕ) → spot < length last → IsLast names (length last) spot (length names) (slice_index_or last spot None)
   pub steps : (k : ℕ) → k < length names → IsLast names (length last) (spot_of (length last) (name_at names k)) k (slice_index_or before k None)

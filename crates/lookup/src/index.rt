@@ -1,11 +1,11 @@
 // Where the rows of names are.
 ghost use Rattle.std.specs.Prelude.{◌≡◌, ◌<◌, length, IfOk};
-ghost use Rattle.lookup.specs.Index.{spot_of, IsLast, Finds};
+ghost use Rattle.lookup.specs.Index.{spot_of, IsLast, Indexes};
 
 use std::alloc::{AllocError, Global};
 use std::hash::{FoldHasher, Hasher};
 
-// The fewest spots of several names: where there are more than names, most lines find none.
+// The fewest spots of several names: the more spots, the more lines find none.
 const FEWEST_SPOTS: usize = 64;
 
 // Where the rows of names are: the names that have one spot follow each other, the last of them first.
@@ -16,7 +16,7 @@ pub(crate) struct Index<'n> {
     pub(crate) last: Vec<Option<usize>>,
     // For each name, the last before it that has its spot.
     pub(crate) before: Vec<Option<usize>>,
-    ghost finds: { Finds names.now last.items before.items },
+    ghost indexes: { Indexes names.now last.items before.items },
 }
 
 // The spot of a name, of so many.

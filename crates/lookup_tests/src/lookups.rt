@@ -145,12 +145,21 @@ fn each_name_that_is_asked_for_has_a_row(rt: HostRuntime) -> Result<(), Fail> {
         line: 2,
         address: 160,
     };
-    assert_eq!(rt; rows.sightings(), [zero, Sighting::Unlisted, at, zero].as_slice());
+    assert_eq!(rt;
+        rows.sightings(),
+        [zero, Sighting::Unlisted, at, zero].as_slice()
+    );
     let _ = look_up(&mut Text::new(b"1 d d\na0 d aaaaaae5\n"), &mut rows);
     let sightings = rows.into_sightings();
     assert_eq!(rt;
         sightings.as_slice(),
-        [Sighting::Unlisted, at, Sighting::Unlisted, Sighting::Unlisted].as_slice()
+        [
+            Sighting::Unlisted,
+            at,
+            Sighting::Unlisted,
+            Sighting::Unlisted
+        ]
+        .as_slice()
     );
     Ok(())
 }

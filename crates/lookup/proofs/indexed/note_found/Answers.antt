@@ -19,21 +19,21 @@ index-next-requires c =
     let index = c.args.index.now in
     let here = subst (Walked index.names.now (length index.last.items) c.args.line_number c.args.line.now c.args.sightings.now c.rows.sightings) c.in-Some-next.is c.rows.invariant in
     let lt = in_names index.names.now (length index.last.items) c.args.line_number c.args.line.now c.args.sightings.now c.rows.sightings c.in-Some-next.k here in
-    omega (arith, lt, index.finds.all, index.before.ok.0)
+    omega (arith, lt, index.indexes.all, index.before.ok.0)
 
 pub rows-smaller : goal.rows-smaller
 rows-smaller c =
     let index = c.args.index.now in
     let here = subst (Walked index.names.now (length index.last.items) c.args.line_number c.args.line.now c.args.sightings.now c.rows.sightings) c.in-Some-next.is c.rows.invariant in
     let lt = in_names index.names.now (length index.last.items) c.args.line_number c.args.line.now c.args.sightings.now c.rows.sightings c.in-Some-next.k here in
-    rw c.in-Some-next.is (left_less index.names.now (length index.last.items) _ c.in-Some-next.k c.index-next.result.now (last_before index.names.now index.last.items index.before.items c.in-Some-next.k c.index-next.result.now index.finds lt c.index-next.ensures))
+    rw c.in-Some-next.is (left_less index.names.now (length index.last.items) _ c.in-Some-next.k c.index-next.result.now (last_before index.names.now index.last.items index.before.items c.in-Some-next.k c.index-next.result.now index.indexes lt c.index-next.ensures))
 
 pub rows-preserved : goal.rows-preserved
 rows-preserved c =
     let index = c.args.index.now in
     let here = subst (Walked index.names.now (length index.last.items) c.args.line_number c.args.line.now c.args.sightings.now c.rows.sightings) c.in-Some-next.is c.rows.invariant in
     let lt = in_names index.names.now (length index.last.items) c.args.line_number c.args.line.now c.args.sightings.now c.rows.sightings c.in-Some-next.k here in
-    let next = last_before index.names.now index.last.items index.before.items c.in-Some-next.k c.index-next.result.now index.finds lt c.index-next.ensures in
+    let next = last_before index.names.now index.last.items index.before.items c.in-Some-next.k c.index-next.result.now index.indexes lt c.index-next.ensures in
     let line : c.in-Some.fields.line.now ≡ c.args.line.now = c.in-Some.ensures.1 in
     rw c.note_row.ensures (rw line (walk_more index.names.now (length index.last.items) c.args.line_number c.args.line.now c.args.sightings.now c.rows.sightings c.in-Some-next.k here c.index-next.result.now next))
 

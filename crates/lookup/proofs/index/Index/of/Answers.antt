@@ -26,4 +26,4 @@ loop-i-preserved c =
 pub invariant_of-result : goal.invariant_of-result
 invariant_of-result c =
     let ends : c.loop-i.i ≡ length c.args.names.now = omega (arith, c.loop-i-test.false, c.loop-i.auto.i-end) in
-    record { finds = chained_all c.args.names.now c.spots_for-spots.result c.loop-i.i c.loop-i.last.items c.loop-i.before.items ends c.spots_for-spots.ensures c.loop-i.invariant }
+    record { indexes = chained_all c.args.names.now c.spots_for-spots.result c.loop-i.i c.loop-i.last.items c.loop-i.before.items ends c.spots_for-spots.ensures c.loop-i.invariant }
