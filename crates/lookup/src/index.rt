@@ -34,14 +34,14 @@ fn spot(name: &[u8], spots: usize) -> usize
     hasher.finish() as usize & (spots - 1)
 }
 
-// How many spots these names have: one name has one, and needs no hash.
+// How many spots these names have: one name has one, and needs no hash; of many names, two at most have one on average, which keeps the index small.
 fn spots_for(names: &[String]) -> usize
     ensures { 0 < result }
 {
     if names.len() <= 1 {
         1
     } else {
-        names.len().max(FEWEST_SPOTS).next_power_of_two()
+        (names.len() / 2).max(FEWEST_SPOTS).next_power_of_two()
     }
 }
 

@@ -7,8 +7,8 @@ ghost use Rattle.lookup.specs.declared.sighting.Sighting.TheVariants.{Unlisted};
 
 use crate::index::Index;
 use crate::names::Names;
-use crate::rows::noted;
 use crate::sighting::Sighting;
+use kallsyms::address::read_address;
 use kallsyms::fields::Fields;
 use std::alloc::{AllocError, Global};
 
@@ -51,8 +51,9 @@ fn note_row(
     requires { 3 ≤ length (fields_of 0 fields.now.line.now) }
     ensures { sightings.new ≡ (if nat_lt row (min (length names.now) (length sightings.old)) then slice_set sightings.old row (noted_of line_number fields.now.line.now (name_at names.now row) (slice_index_or sightings.old row Unlisted)) else sightings.old) }
 {
-    if row < names.len().min(sightings.len()) {
-        sightings[row] = noted(sightings[row], names[row].as_bytes(), line_number, fields);
+    if row < names.len().min(sightings.len()) && names[row].as_bytes() == fields.name().bytes {
+        let address = read_address(fields.address().bytes);
+        sightings[row] = sightings[row].after(line_number, address);
     }
 }
 
