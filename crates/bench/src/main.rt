@@ -6,7 +6,7 @@ ghost use Rattle.kallsyms.specs.Cut.{lines_from};
 ghost use Rattle.kallsyms.specs.Line.{count_of};
 
 use kallsyms::text::Text;
-use lookup::choice::asked;
+use lookup::indexed::asked;
 use lookup::names::Names;
 use lookup::scan::look_up;
 use std::process::ExitCode;
@@ -48,9 +48,9 @@ fn main(rt: HostRuntime) -> io::Result<ExitCode> {
         }
     };
     let bytes = fs::read(&rt, list.as_str())?;
-    // The map that the tool takes too, made once: each scan leaves every name unlisted first.
-    let mut map = asked(rt.alloc(), names)?;
-    let (shortest, lines) = best(&rt, &bytes, &mut map)?;
+    // What the tool takes too, made once: each scan leaves every name unlisted first.
+    let mut rows = asked(rt.alloc(), names)?;
+    let (shortest, lines) = best(&rt, &bytes, &mut rows)?;
     let micros = shortest.as_micros();
     eprintln!(rt; "best of {RUNS}: {micros} us")?;
     println!(rt; "{lines} lines")?;

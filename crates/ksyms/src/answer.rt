@@ -1,13 +1,12 @@
 // What the tool answers, as text.
-ghost use Rattle.std.specs.Prelude.{◌≡◌, ◌++◌, IfOk, string_bytes, OnOk};
+ghost use Rattle.std.specs.Prelude.{◌≡◌, ◌++◌, length, IfOk, string_bytes, OnOk};
 ghost use Rattle.ksyms.specs.Answers.{end_lines, told_lines, answer_text, Answers};
-ghost use Rattle.ksyms.specs.Tells.{Finds, HasNames, Tells};
+ghost use Rattle.ksyms.specs.Tells.{Finds, Tells};
 
 use crate::summary::{Summary, Told, found};
 use kallsyms::ends::End;
 use kallsyms::text::Text;
-use lookup::choice::asked;
-use lookup::names::NameMap;
+use lookup::indexed::asked;
 use lookup::scan::{Reading, look_up};
 use lookup::sighting::Sighting;
 use std::alloc::{AllocError, Global};
@@ -25,21 +24,20 @@ fn end_lines(heap: Global, end: End) -> Result<String, AllocError>
     }
 }
 
-// What a map says of each of the names, in their order.
-fn told_of<'a, M: NameMap>(
+// What is said of each of the names, in their order.
+fn told_of<'a>(
     heap: Global,
     names: &'a [String],
-    map: &M,
+    sightings: &[Sighting],
 ) -> Result<Vec<Told<'a>>, AllocError>
-    requires { HasNames names.now (M.said map.now) }
-    ensures { IfOk result (λ v. Tells names.now (M.said map.now) v.items) }
+    requires { length sightings.now ≡ length names.now }
+    ensures { IfOk result (λ v. Tells names.now sightings.now v.items) }
 {
     let mut tolds = Vec::with_capacity(heap, names.len())?;
-    for name in names {
-        let sighting = map.said(name.as_bytes()).unwrap_or(Sighting::Unlisted);
+    for (i, name) in names.iter().enumerate() {
         tolds.push(Told {
             name: name.as_str(),
-            sighting,
+            sighting: sightings[i],
         })?;
     }
     Ok(tolds)
@@ -53,9 +51,11 @@ fn found_of<'a>(
 ) -> Result<(Vec<Told<'a>>, Reading), AllocError>
     ensures { IfOk result (λ r. Finds bytes.now names.now r.0.items r.1) }
 {
-    let mut map = asked(heap, names)?;
-    let reading = look_up(&mut Text::new(bytes), &mut map);
-    let tolds = told_of(heap, names, &map)?;
+    let mut rows = asked(heap, names)?;
+    let reading = look_up(&mut Text::new(bytes), &mut rows);
+    // The index is let go first, so that it takes no memory beside what is told.
+    let sightings = rows.into_sightings();
+    let tolds = told_of(heap, names, &sightings)?;
     Ok((tolds, reading))
 }
 

@@ -4,3 +4,5 @@ pub mod Noting
 pub mod Saying
 pub mod RowNoting
 pub mod RowSaying
+pub mod Chaining
+pub mod RowFinding

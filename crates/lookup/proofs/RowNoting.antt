@@ -1,8 +1,8 @@
 -- A line that lists a name, and one that does not. Assumes nothing.
-use Rattle.std.proofs.Common.{◌≡◌, ℕ, zero, suc, ◌+◌, ◌<◌, ◌≤◌, Bool, false, cond, ltb, leb, ◌≢◌, List, [], length, get_or, set, replicate, string_bytes, String, sym, refl, ap, ◌∙◌, ⊎_elim, arith}
+use Rattle.std.proofs.Common.{◌≡◌, ℕ, zero, suc, ◌+◌, ◌<◌, ◌≤◌, min, Bool, false, cond, ltb, leb, ◌≢◌, List, [], length, get_or, set, replicate, string_bytes, String, sym, refl, ap, ◌∙◌, ⊎_elim, arith}
 use Rattle.std.proofs.lemmas.Slice.Eq.{bytes_eq-Decides}
 use Rattle.std.proofs.lemmas.Bool.{le-leb, lt-leb, lt-ltb, le-ltb, and_from, and_left, and_right, cond-true, cond-false, cond_both, cases_Bool, cases_order}
-use Rattle.std.proofs.lemmas.List.{get_or-set_same, get_or-set_other, get_or-map}
+use Rattle.std.proofs.lemmas.List.{get_or-set_same, get_or-set_other, set-get_or, get_or-map}
 use Rattle.std.specs.Str.{bytes_eq}
 use Rattle.std.specs.declared.alloc.Global.{Global}
 use Rattle.kallsyms.specs.Fields.{fields, field}
@@ -56,3 +56,14 @@ pub all_unlisted : (n k : ℕ) → get_or (replicate n Unlisted) k Unlisted ≡ 
 all_unlisted zero k = refl
 all_unlisted (suc n) zero = refl
 all_unlisted (suc n) (suc k) = all_unlisted n k
+
+-- what a row whose name was looked at leaves of the rows
+module _ (names : List (String Global)) (rows : List Sighting) (k n : ℕ) (l : List ℕ) where
+  pub row_listed : (s : Sighting) → k < min (length names) (length rows) → noted n l (name_at names k) (get_or rows k Unlisted) ≡ s → set rows k s ≡ cond (ltb k (min (length names) (length rows))) (set rows k (noted n l (name_at names k) (get_or rows k Unlisted))) rows
+  row_listed s lt e = ap (set rows k) (sym e) ∙ sym (cond-true _ _ _ (lt-ltb k _ lt))
+
+  pub row_other : k < min (length names) (length rows) → noted n l (name_at names k) (get_or rows k Unlisted) ≡ get_or rows k Unlisted → rows ≡ cond (ltb k (min (length names) (length rows))) (set rows k (noted n l (name_at names k) (get_or rows k Unlisted))) rows
+  row_other lt e = sym (set-get_or rows k Unlisted) ∙ row_listed (get_or rows k Unlisted) lt e
+
+  pub row_none : min (length names) (length rows) ≤ k → rows ≡ cond (ltb k (min (length names) (length rows))) (set rows k (noted n l (name_at names k) (get_or rows k Unlisted))) rows
+  row_none ge = sym (cond-false _ _ _ (le-ltb k _ ge))

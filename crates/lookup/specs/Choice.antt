@@ -1,12 +1,8 @@
--- Names in a map of one of two kinds. Assumes nothing.
+-- Names of one of two kinds. Assumes nothing.
 use Rattle.std.specs.Prelude.{ℕ, List, Option, IfSome, IsSome}
 use Rattle.either.specs.Either.{either}
 use Rattle.either.specs.declared.Either.{Either}
 use Rattle.either.specs.declared.Either.TheVariants.{Left, Right}
-use Rattle.std.specs.Borrow.{Bor}
-use Rattle.std.specs.HashMap.{HashMap}
-use Rattle.lookup.specs.Hashed.{sighting_in, HashHolds, HashKeeps, hash_has}
-use Rattle.lookup.specs.LookedUp.{Sightings, sighting_of, MapHolds, MapKeeps, map_has}
 use Rattle.lookup.specs.Says.{Says}
 use Rattle.lookup.specs.declared.sighting.Sighting.{Sighting}
 
@@ -50,16 +46,3 @@ module _ {X Y : Type 0} where
   chosen_has P Q f g p q (Left a) (Right b) h = absurd h
   chosen_has P Q f g p q (Right a) (Left b) h = absurd h
   chosen_has P Q f g p q (Right a) (Right b) h = q a b h
-
-module _ {S : Type 0} where
-  -- what a sorted map or a hash map says of the name with these bytes
-  abbrev pub said_by : Either Sightings (HashMap (Bor (List ℕ)) Sighting S) → List ℕ → Option Sighting
-  said_by = either sighting_of sighting_in
-
-  -- a map that holds what the lines say says so of each of its names
-  pub map_says : (ls : List (List ℕ)) (m : Either Sightings (HashMap (Bor (List ℕ)) Sighting S)) → Holds MapHolds HashHolds ls m → (name : List ℕ) → IfSome (said_by m name) (Says ls name)
-  map_says = chosen_says MapHolds HashHolds sighting_of sighting_in (λ ls m h. h) (λ ls m h. h)
-
-  -- a name that a map keeps is still there
-  pub map_still_has : (a b : Either Sightings (HashMap (Bor (List ℕ)) Sighting S)) → Alike MapKeeps HashKeeps a b → (name : List ℕ) → IsSome (said_by a name) → IsSome (said_by b name)
-  map_still_has = chosen_has MapKeeps HashKeeps sighting_of sighting_in map_has hash_has

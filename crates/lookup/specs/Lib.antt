@@ -7,3 +7,5 @@ pub mod Asked
 pub mod Rows
 pub mod Hashed
 pub mod Choice
+pub mod Index
+pub mod Indexed

@@ -1,19 +1,10 @@
-// Names in a map of one of two kinds.
-ghost use Rattle.std.specs.Prelude.{◌≡◌, ℕ, List, IfOk};
+// Names of one of two kinds.
 ghost use Rattle.either.specs.Either.{either};
-ghost use Rattle.lookup.specs.Asked.{asked};
-ghost use Rattle.lookup.specs.Choice.{Holds, Alike, alike_twice, chosen_says, chosen_has, said_by};
+ghost use Rattle.lookup.specs.Choice.{Holds, Alike, alike_twice, chosen_says, chosen_has};
 
-use crate::hashed::hashed;
 use crate::names::{NameMap, Names};
-use crate::scan::unlisted;
 use crate::sighting::Sighting;
 use kallsyms::choice::Either;
-use std::alloc::{AllocError, Global};
-use std::collections::{BTreeMap, HashMap};
-
-// Up to how many names go into a sorted map: for a few it takes less for each line, and a hash map takes less for each name.
-const FEW_NAMES: usize = 64;
 
 /// The names of the one that it is.
 impl<A: Names, B: Names> Names for Either<A, B> {
@@ -51,20 +42,5 @@ impl<A: NameMap, B: NameMap> NameMap for Either<A, B> {
             Either::Left(a) => a.said(name),
             Either::Right(b) => b.said(name),
         }
-    }
-}
-
-/// A map that has each of these names, unlisted, and no others: a sorted one for a few names, else a hash map.
-// A sorted map compares each name with some others, which a list of few lines does not repay.
-pub fn asked<'a>(
-    heap: Global,
-    names: &'a [String],
-) -> Result<Either<BTreeMap<&'a [u8], Sighting>, HashMap<&'a [u8], Sighting>>, AllocError>
-    ensures { IfOk result (λ m. (bytes : List ℕ) → said_by m bytes ≡ asked names.now bytes) }
-{
-    if names.len() <= FEW_NAMES {
-        Ok(Either::Left(unlisted(heap, names)?))
-    } else {
-        Ok(Either::Right(hashed(heap, names)?))
     }
 }

@@ -19,6 +19,7 @@ fn ask<'a>(sightings: &mut HashMap<&'a [u8], Sighting>, name: &'a [u8]) -> Resul
 }
 
 /// A hash map that has each of these names, unlisted, and no others.
+// Its hash has a fixed seed: with names chosen to collide, to make it takes up to names × names, where `asked` compares no two names.
 #[tactic(auto, using(crate::proofs::Asking::one_more))]
 pub fn hashed(heap: Global, names: &[String]) -> Result<HashMap<&[u8], Sighting>, AllocError>
     ensures { IfOk result (λ m. HashAsked names.now m) }

@@ -3,6 +3,8 @@
 
 pub mod choice;
 pub mod hashed;
+mod index;
+pub mod indexed;
 pub mod laws;
 pub mod names;
 pub mod rows;

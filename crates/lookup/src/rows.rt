@@ -31,7 +31,8 @@ impl<'n, 's> Rows<'n, 's> {
 }
 
 // What is said of a name once one line more, with these fields, is read.
-fn noted(sighting: Sighting, name: &[u8], line_number: u64, fields: &Fields) -> Sighting
+#[inline(always)]
+pub(crate) fn noted(sighting: Sighting, name: &[u8], line_number: u64, fields: &Fields) -> Sighting
     requires { 3 ≤ length (fields_of 0 fields.now.line.now) }
     ensures { result ≡ noted_of line_number fields.now.line.now name.now sighting }
 {

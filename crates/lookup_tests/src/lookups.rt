@@ -1,6 +1,7 @@
 use kallsyms::ends::Fault;
 use kallsyms::text::Text;
 use lookup::hashed::hashed;
+use lookup::indexed::asked;
 use lookup::names::NameMap;
 use lookup::rows::{Rows, look_up_rows};
 use lookup::scan::{look_up, unlisted};
@@ -122,6 +123,43 @@ fn rows_on_the_stack_are_enough(rt: HostRuntime) -> Result<(), Fail> {
         spare,
         [Sighting::OnlyZero { line: 1 }, Sighting::Unlisted],
         "a row without a name is unlisted"
+    );
+    Ok(())
+}
+
+#[test]
+fn each_name_that_is_asked_for_has_a_row(rt: HostRuntime) -> Result<(), Fail> {
+    // The first two have one spot of the 64 that there are for a few names.
+    let names = vec![in rt.alloc();
+        String::from_str(rt.alloc(), "aaaaaabm")?,
+        String::from_str(rt.alloc(), "aaaaaae5")?,
+        String::from_str(rt.alloc(), "b")?,
+        String::from_str(rt.alloc(), "aaaaaabm")?,
+    ]?;
+    let mut rows = asked(rt.alloc(), &names)?;
+    assert_eq!(rt; rows.sightings(), [Sighting::Unlisted; 4].as_slice());
+    let reading = look_up(&mut Text::new(b"0 d aaaaaabm\na0 d b\n"), &mut rows);
+    assert_eq!(rt; reading.lines, 2);
+    let zero = Sighting::OnlyZero { line: 1 };
+    let at = Sighting::At {
+        line: 2,
+        address: 160,
+    };
+    assert_eq!(rt;
+        rows.sightings(),
+        [zero, Sighting::Unlisted, at, zero].as_slice()
+    );
+    let _ = look_up(&mut Text::new(b"1 d d\na0 d aaaaaae5\n"), &mut rows);
+    let sightings = rows.into_sightings();
+    assert_eq!(rt;
+        sightings.as_slice(),
+        [
+            Sighting::Unlisted,
+            at,
+            Sighting::Unlisted,
+            Sighting::Unlisted
+        ]
+        .as_slice()
     );
     Ok(())
 }
